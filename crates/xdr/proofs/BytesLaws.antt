@@ -1,0 +1,114 @@
+-- Laws on parts of lists: what a splice leaves at each place, and how splices join.
+use Prim.Native.Nat.{ℕ, zero, _+_, _-_, _≤_, _<_}
+use mathlib.Core.Path.{_≡_, sym, ap, _∙_}
+use mathlib.Core.List.{List, [], _∷_, _++_, append-assoc, append-nil}
+use native.Mathlib.Nat.{add-assoc, add-sub-of-le}
+use native.Mathlib.Numerals.{add-one, add-two, add-three}
+use native.Mathlib.Omega.{arith}
+use lib.ListN.{length, getD, set, take, drop, replicate, length-append, length-take, length-drop, List·getD-append, drop-of-length-le, length-replicate}
+use lib.Seq.{getD-append-add, getD-take, getD-drop, length-take-le, take-all, take-nil, drop-drop, take-append-add, drop-append-add, sets-eq, take-append-seam, take-suc, take-suc-set}
+use borrow.Rule.Slice.PartMut as P
+use Rattle.xdr.specs.Bytes.{partOf, splice, Written}
+
+-- ---- a part that is taken
+
+pub part-none : (s : List ℕ) (start len : ℕ) → length s < start → partOf s (record { start = start; len = len }) ≡ []
+unfolding partOf
+part-none s start len h =
+    let k : length s ≤ start = omega arith in
+    rw (drop-of-length-le s k) (take-nil len)
+
+pub part-rest : (s : List ℕ) (start len : ℕ) → length s - start ≤ len → partOf s (record { start = start; len = len }) ≡ drop start s
+unfolding partOf
+part-rest s start len h = take-all len (drop start s) (simp length-drop h)
+
+-- ---- a part that is stored over
+
+pub length-splice : (m : List ℕ) (at : ℕ) (bs : List ℕ) → at + length bs ≤ length m → length (splice m at bs) ≡ length m
+unfolding splice
+length-splice m at bs h = simp (length-append, length-take, length-drop) (omega arith)
+
+pub splice-in : (m : List ℕ) (at : ℕ) (bs : List ℕ) (j : ℕ) → at ≤ length m → j < length bs → getD (splice m at bs) (at + j) 0 ≡ getD bs j 0
+unfolding splice
+splice-in m at bs j h l =
+    ap (λ (n : ℕ). getD (take at m ++ (bs ++ drop (at + length bs) m)) (n + j) 0) (sym (length-take-le at m h))
+    ∙ getD-append-add (take at m) (bs ++ drop (at + length bs) m) j 0
+    ∙ List·getD-append bs (drop (at + length bs) m) 0 j l
+
+pub splice-below : (m : List ℕ) (at : ℕ) (bs : List ℕ) (j : ℕ) → at ≤ length m → j < at → getD (splice m at bs) j 0 ≡ getD m j 0
+unfolding splice
+splice-below m at bs j h l =
+    List·getD-append (take at m) (bs ++ drop (at + length bs) m) 0 j (rw (length-take-le at m h) l) ∙ getD-take at m j 0 l
+
+pub splice-above : (m : List ℕ) (at : ℕ) (bs : List ℕ) (j : ℕ) → at ≤ length m → at + length bs ≤ j → getD (splice m at bs) j 0 ≡ getD m j 0
+unfolding splice
+splice-above m at bs j h l =
+    let t : ℕ = j - (at + length bs) in
+    let e : j ≡ length (take at m) + (length bs + t) = rw (length-take-le at m h) (omega arith) in
+    ap (λ (n : ℕ). getD (take at m ++ (bs ++ drop (at + length bs) m)) n 0) e
+    ∙ getD-append-add (take at m) (bs ++ drop (at + length bs) m) (length bs + t) 0
+    ∙ getD-append-add bs (drop (at + length bs) m) t 0
+    ∙ getD-drop (at + length bs) m t 0
+    ∙ ap (λ (n : ℕ). getD m n 0) (add-sub-of-le l)
+
+-- two splices, the second behind the first, are one
+pub splice-splice : (m : List ℕ) (at : ℕ) (a b : List ℕ) → at ≤ length m → splice (splice m at a) (at + length a) b ≡ splice m at (a ++ b)
+unfolding splice
+splice-splice m at a b h =
+    let t = take at m in
+    let r = drop (at + length a) m in
+    let e : length t ≡ at = length-take-le at m h in
+    let front : take (at + length a) (t ++ (a ++ r)) ≡ t ++ a
+    = ap (λ (n : ℕ). take (n + length a) (t ++ (a ++ r))) (sym e) ∙ take-append-add t (a ++ r) (length a) ∙ ap (λ (l : List ℕ). t ++ l) (take-append-seam a r) in
+    let sum : at + length a + length b ≡ at + length (a ++ b) = omega (arith, length-append a b) in
+    let back : drop (at + length a + length b) (t ++ (a ++ r)) ≡ drop (at + length (a ++ b)) m
+    = ap (λ (n : ℕ). drop (n + length a + length b) (t ++ (a ++ r))) (sym e)
+    ∙ ap (λ (n : ℕ). drop n (t ++ (a ++ r))) (add-assoc (length t) (length a) (length b))
+    ∙ drop-append-add t (a ++ r) (length a + length b)
+    ∙ drop-append-add a r (length b)
+    ∙ drop-drop (length b) (at + length a) m
+    ∙ ap (λ (n : ℕ). drop n m) sum in
+    rw (front, back) (append-assoc t a (b ++ drop (at + length (a ++ b)) m) ∙ ap (λ (l : List ℕ). t ++ l) (sym (append-assoc a b (drop (at + length (a ++ b)) m))))
+
+-- what two writers leave, the second behind the first
+pub written-then : {a b : List ℕ} {n m at p q : ℕ} {x y z : List ℕ} → at ≤ length x → Written a n at x y p → Written b m p y z q
+    → Written (a ++ b) (n + m) at x z q
+written-then {a} {b} {n} {m} {at} {p} {q} {x} {y} {z} h f g =
+    let e : p ≡ at + length a = f .place ∙ ap (λ (k : ℕ). at + k) (sym (f .size)) in
+    record {
+      bytes = g .bytes ∙ ap (λ (l : List ℕ). splice l p b) (f .bytes) ∙ ap (λ (k : ℕ). splice (splice x at a) k b) e ∙ splice-splice x at a b h;
+      size = omega (arith, length-append a b, f .size, g .size);
+      place = omega (arith, f .place, g .place);
+    }
+
+-- a lent part that comes back is a splice
+pub put-splice : (a n : ℕ) (xs ys zs : List ℕ) → ys ≡ zs → length zs ≡ n → P.putMid a (a + n - a) xs ys ≡ splice xs a zs
+unfolding splice
+put-splice a n xs ys zs e h = rw (P.post-is a (a + n) xs (omega arith), e, h)
+
+-- four stores in a row are a splice
+pub put4 : (l : List ℕ) (at a b c d : ℕ) → at + 4 ≤ length l → set (set (set (set l at a) (at + 1) b) (at + 2) c) (at + 3) d ≡ splice l at (a ∷ b ∷ c ∷ d ∷ [])
+unfolding splice
+put4 l at a b c d h =
+    rw (add-one at, add-two at, add-three at)
+    (sets-eq (a ∷ b ∷ c ∷ d ∷ []) l at h ∙ append-assoc (take at l) (a ∷ b ∷ c ∷ d ∷ []) (drop (at + 4) l))
+
+-- ---- loops that copy and zero
+
+pub copy-more : (dst src : List ℕ) (i : ℕ) → i < length dst → i < length src → take i dst ≡ take i src → take (i + 1) (set dst i (getD src i 0)) ≡ take (i + 1) src
+copy-more dst src i h k e = rw (add-one i, take-suc-set dst i (getD src i 0) h, take-suc src i 0 k, e)
+
+pub copy-all : (dst src : List ℕ) (i : ℕ) → take i dst ≡ take i src → length dst ≤ i → length src ≤ i → dst ≡ src
+copy-all dst src i e h k = sym (take-all i dst h) ∙ e ∙ take-all i src k
+
+pub fill-all : (d d₀ : List ℕ) (i : ℕ) → d ≡ replicate i 0 ++ drop i d₀ → i ≤ length d₀ → length d₀ ≤ i → d ≡ replicate (length d₀) 0
+fill-all d d₀ i e h k =
+    let n : i ≡ length d₀ = omega arith in
+    e ∙ rw (drop-of-length-le d₀ k, append-nil, n)
+
+-- a lent part that comes back zeroed
+pub put-zeroed : (a n : ℕ) (xs ys : List ℕ) → a + n ≤ length xs → ys ≡ replicate (length (take (a + n - a) (drop a xs))) 0
+    → P.putMid a (a + n - a) xs ys ≡ splice xs a (replicate n 0)
+put-zeroed a n xs ys h e =
+    let k : length (take (a + n - a) (drop a xs)) ≡ n = rw (length-take (a + n - a) (drop a xs), length-drop a xs) (omega arith) in
+    put-splice a n xs ys (replicate n 0) (e ∙ ap (λ (m : ℕ). replicate m 0) k) (length-replicate n 0)

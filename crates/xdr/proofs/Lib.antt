@@ -1,0 +1,5 @@
+pub mod BytesLaws
+pub mod EncodeLaws
+pub mod DecodeLaws
+pub mod RoundTrip
+pub mod Onward

@@ -1,19 +1,32 @@
 -- Laws on encodings: their lengths, how a wide number splits, and the number that its bytes spell.
 use Prim.Native.Nat.{ℕ, zero, suc, _+_, _-_, _*_, _/_, _%_, _^_, _<_}
 use mathlib.Core.Path.{_≡_, refl, sym, ap, _∙_}
+use mathlib.Core.Bool.{Bool, cond}
 use mathlib.Core.List.{List, [], _∷_, _++_}
 use native.Mathlib.Nat.{zero-add, suc-add, add-comm, add-mul, zero-mul, mul-assoc, pow-succ', one-le-pow, div-div-eq-div-mul, div-one, mod-one}
 use native.Mathlib.Omega.{arith}
 use lib.Pow.{pow-add}
 use lib.Arith.{mod-mul}
 use lib.ListN.{length, length-append, length-replicate}
-use Rattle.xdr.specs.Encode.{be, u32, u64, opaqueSize, opaque}
+use Rattle.xdr.specs.Encode.{be, u32, u64, bool, opaqueSize, opaque}
 use Rattle.xdr.specs.Decode.{value}
 
 pub length-be : (k n : ℕ) → length (be k n) ≡ k
 unfolding be
 length-be zero n = refl
 length-be (suc k) n = ap suc (length-be k n)
+
+pub length-u32 : (n : ℕ) → length (u32 n) ≡ 4
+unfolding u32
+length-u32 n = length-be 4 n
+
+pub length-u64 : (n : ℕ) → length (u64 n) ≡ 8
+unfolding u64
+length-u64 n = length-be 8 n
+
+pub length-bool : (b : Bool) → length (bool b) ≡ 4
+unfolding bool
+length-bool b = length-u32 (cond b 1 0)
 
 pub length-opaque : (d : List ℕ) → length (opaque d) ≡ opaqueSize (length d)
 unfolding opaque u32

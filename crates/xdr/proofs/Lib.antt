@@ -3,3 +3,5 @@ pub mod EncodeLaws
 pub mod DecodeLaws
 pub mod RoundTrip
 pub mod Onward
+pub mod LayoutLaws
+pub mod Bounds

@@ -29,3 +29,8 @@ opaqueSize n = 4 + (n + padBytes n)
 
 unfoldable pub opaque : List ℕ → List ℕ
 opaque d = u32 (length d) ++ (d ++ replicate (padBytes (length d)) 0)
+
+-- the encodings of a list's elements, one after the other
+abbrev pub concatMap : {A : Type 0} → (A → List ℕ) → List A → List ℕ
+concatMap f [] = []
+concatMap f (x ∷ xs) = f x ++ concatMap f xs

@@ -2,3 +2,4 @@ pub mod Bytes
 pub mod Encode
 pub mod Decode
 pub mod Answers
+pub mod Layout

@@ -1,0 +1,5 @@
+pub mod StepLaws
+pub mod ClaimProof
+pub mod AnswerLaws
+pub mod ReplyLaws
+pub mod ArrayLaws

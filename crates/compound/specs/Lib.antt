@@ -1,0 +1,6 @@
+pub mod Status
+pub mod Operation
+pub mod Run
+pub mod Serve
+pub mod Claim
+pub mod Arrays

@@ -1,0 +1,1 @@
+// The compound runner: operations decoded, run and answered. The rules stand in specs/.

@@ -1,0 +1,15 @@
+pub mod CountLaws
+pub mod NeedLaws
+pub mod PlanLaws
+pub mod ViewLaws
+pub mod FileLaws
+pub mod WriteLaws
+pub mod PartLaws
+pub mod AllocateLaws
+pub mod CloneLaws
+pub mod DeallocateLaws
+pub mod SoundLaws
+pub mod ReadLaws
+pub mod PieceLaws
+pub mod CopyLaws
+pub mod ArrayLaws

@@ -1,0 +1,57 @@
+-- The store's own calls and their refusals (document 01, "Numbers of a refused call" and "The store").
+use Prim.Native.Nat.{ℕ, zero, pred, _*_, _/_}
+use mathlib.Core.Bool.{Bool, true, cond, _&&_, not}
+use mathlib.Core.List.{List, [], _∷_}
+use lib.ListN.{length, getD, take, drop}
+use lib.Dec.{ltb, eqb}
+use Rattle.store.specs.Geometry.{Geometry, goodGeometry}
+use Rattle.store.specs.Count.{allTo}
+use Rattle.store.specs.Store.{Store, goodLengths, emptyStore, isHole, wordOf}
+use Rattle.store.specs.Blocks.{used, owed}
+use Rattle.store.specs.Sound.{sound}
+
+-- the number of the first test that holds; 0 if none does
+abbrev pub first : List (Bool × ℕ) → ℕ
+first [] = 0
+first (t ∷ ts) = cond (t .0) (t .1) (first ts)
+
+-- ---- make an empty store
+
+unfoldable pub makeRefusal : Geometry → Store → ℕ
+makeRefusal g st = first ((not (goodGeometry g), 1) ∷ (not (goodLengths g st), 2) ∷ [])
+
+unfoldable pub madeStore : Geometry → Store → Store
+madeStore g st = cond (eqb (makeRefusal g st) 0) (emptyStore g) st
+
+-- ---- say whether a store is sound
+
+unfoldable pub storeRefusal : Geometry → Store → ℕ
+storeRefusal g st = first ((not (goodGeometry g), 1) ∷ (not (goodLengths g st), 2) ∷ (not (sound g st), 3) ∷ [])
+
+-- ---- count used and owed blocks: zero on a refusal
+
+unfoldable pub usedCount : Geometry → Store → ℕ
+usedCount g st = cond (eqb (storeRefusal g st) 0) (used (st .words)) 0
+
+unfoldable pub owedCount : Geometry → Store → ℕ
+owedCount g st = cond (eqb (storeRefusal g st) 0) (owed (st .words)) 0
+
+-- ---- show slot k of file f, by two calls; `page` is the zero page that the caller lends
+
+unfoldable pub slotRefusal : Geometry → Store → List ℕ → ℕ → ℕ → ℕ
+slotRefusal g st page f k = first (
+    (not (goodGeometry g), 1)
+    ∷ (not (goodLengths g st && eqb (length page) (g .B)), 2)
+    ∷ (not (sound g st && allTo (length page) (λ j. eqb (getD page j 0) 0)), 3)
+    ∷ (not (ltb f (g .F) && ltb k (g .S)), 8) ∷ [])
+
+-- the block's part of the memory, or for a hole the zero page; on a refusal the page's empty start
+unfoldable pub slotView : Geometry → Store → List ℕ → ℕ → ℕ → List ℕ
+slotView g st page f k = cond (eqb (slotRefusal g st page f k) 0) (shown (wordOf g (st .words) f k)) []
+  where
+    shown : ℕ → List ℕ
+    shown w = cond (isHole w) page (take (g .B) (drop (pred (w / 2) * g .B) (st .mem)))
+
+-- which of the two it is: a hole, also on a refusal
+unfoldable pub slotIsHole : Geometry → Store → List ℕ → ℕ → ℕ → Bool
+slotIsHole g st page f k = cond (eqb (slotRefusal g st page f k) 0) (isHole (wordOf g (st .words) f k)) true

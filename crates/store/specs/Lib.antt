@@ -1,0 +1,16 @@
+pub mod Geometry
+pub mod Count
+pub mod Store
+pub mod Blocks
+pub mod Content
+pub mod Sound
+pub mod Edit
+pub mod Write
+pub mod Copy
+pub mod Clone
+pub mod Allocate
+pub mod Deallocate
+pub mod Read
+pub mod Seek
+pub mod Calls
+pub mod Arrays

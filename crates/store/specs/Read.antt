@@ -1,0 +1,48 @@
+-- READ and READ_PLUS (document 01, "Reading"): what is granted, and the pieces.
+use Prim.Native.Nat.{ℕ, zero, suc, _+_, _-_, _*_, _/_, min}
+use mathlib.Core.Bool.{Bool, true, false, Bool·beq}
+use mathlib.Core.List.{List, [], _∷_}
+use lib.Dec.{leb, ltb}
+use Rattle.store.specs.Geometry.{Geometry}
+use Rattle.store.specs.Store.{Store, isHole, sizeOf, wordOf}
+
+abbrev pub granted : ℕ → ℕ
+granted n = min n 2048
+
+-- how many bytes a READ gives
+abbrev pub readCount : Store → ℕ → ℕ → ℕ → ℕ
+readCount st f off n = min (granted n) (sizeOf st f - off)
+
+-- eof
+abbrev pub atEnd : Store → ℕ → ℕ → ℕ → Bool
+atEnd st f off n = leb (sizeOf st f) (off + granted n)
+
+abbrev pub holeAt : Geometry → Store → ℕ → ℕ → Bool
+holeAt g st f i = isHole (wordOf g (st .words) f (i / g .B))
+
+-- a piece of a file: a hole or data, from a place on, so many bytes
+pub record Piece : Type 0 where
+  pub hole : Bool
+  pub start : ℕ
+  pub size : ℕ
+
+-- a piece in front of others, joined with the first where both are holes or both are data
+unfoldable pub join : Piece → List Piece → List Piece
+join p [] = p ∷ []
+join p (q ∷ qs) = elim (Bool·beq (p .hole) (q .hole)) [
+  | true ↦ record { hole = p .hole; start = p .start; size = p .size + q .size } ∷ qs
+  | false ↦ p ∷ q ∷ qs
+]
+
+-- the pieces of file f from place i up to `end`; k bounds the number of slots
+unfoldable pub pieces : Geometry → Store → ℕ → ℕ → ℕ → ℕ → List Piece
+pieces g st f end zero i = []
+pieces g st f end (suc k) i = elim (ltb i end) [
+  | true ↦ let next = min end ((i / g .B + 1) * g .B) in
+      join (record { hole = holeAt g st f i; start = i; size = next - i }) (pieces g st f end k next)
+  | false ↦ []
+]
+
+-- the pieces of READ_PLUS: clipped to the granted range and the size
+abbrev pub readPieces : Geometry → Store → ℕ → ℕ → ℕ → List Piece
+readPieces g st f off n = pieces g st f (min (off + granted n) (sizeOf st f)) (suc (g .S)) off

@@ -1,0 +1,1 @@
+// The store: geometry, tables, soundness, counts, the edits and what is read. The rules stand in specs/.

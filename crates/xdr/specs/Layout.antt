@@ -1,0 +1,46 @@
+-- A layout says how a value is written and how it is read. A record's layout is stated once, by the layouts of its fields, and serves
+-- both directions.
+use Prim.Native.Nat.{ℕ, _^_}
+use mathlib.Core.Bool.{Bool}
+use mathlib.Core.List.{List, _++_}
+use lib.Dec.{eqb}
+use Rattle.xdr.specs.Encode.{u32, u64, bool, opaque}
+use Rattle.xdr.specs.Decode.{Reader, ret, _>>=_, number, upTo, fixed, opaqueUpTo}
+
+pub record Layout (A : Type 0) : Type 0 where
+  pub write : A → List ℕ
+  pub read : Reader A
+
+-- numbers of 32 and 64 bits
+abbrev pub uint : Layout ℕ
+uint = record { write = u32; read = number 4 }
+
+abbrev pub hyper : Layout ℕ
+hyper = record { write = u64; read = number 8 }
+
+-- an enumeration with the numbers 0 to `limit`
+abbrev pub upToLimit : ℕ → Layout ℕ
+upToLimit limit = record { write = u32; read = upTo limit }
+
+abbrev pub boolean : Layout Bool
+boolean = record { write = bool; read = _>>=_ (upTo 1) (λ n. ret (eqb n 1)) }
+
+-- n bytes as they stand, n a multiple of four
+abbrev pub bytes : ℕ → Layout (List ℕ)
+bytes n = record { write = λ d. d; read = fixed n }
+
+-- opaque data of at most `limit` bytes
+abbrev pub opaqueData : ℕ → Layout (List ℕ)
+opaqueData limit = record { write = opaque; read = opaqueUpTo limit }
+
+-- XDR's own bound on opaque data
+abbrev pub anyLength : ℕ
+anyLength = 2 ^ 32
+
+infixr 40 _then_
+-- one field after another
+abbrev pub _then_ : {A B : Type 0} → Layout A → Layout B → Layout (A × B)
+_then_ a b = record {
+  write = λ x. a .write (x .0) ++ b .write (x .1);
+  read = _>>=_ (a .read) (λ x. _>>=_ (b .read) (λ y. ret (x, y)));
+}

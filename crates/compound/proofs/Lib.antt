@@ -3,3 +3,4 @@ pub mod ClaimProof
 pub mod AnswerLaws
 pub mod ReplyLaws
 pub mod ArrayLaws
+pub mod Points

@@ -1,0 +1,1 @@
+// A line of hexadecimal in, a line out. The rules stand in specs/.

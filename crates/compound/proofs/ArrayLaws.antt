@@ -1,12 +1,13 @@
 -- Each operation does to the files' contents what its byte-array edit says: the target's bytes and size, and nothing else.
-use Prim.Native.Nat.{ℕ, _+_, _-_, _*_, _≤_, _<_}
+use Prim.Native.Nat.{ℕ, suc, _+_, _-_, _*_, _≤_, _<_}
 use mathlib.Core.Path.{_≡_, refl, sym, ap, _∙_}
-use mathlib.Core.Bool.{false, _&&_}
+use mathlib.Core.Bool.{false, cond, _&&_}
+use mathlib.Core.List.{List}
 use native.Mathlib.Nat.{add-sub-cancel-left}
 use native.Mathlib.Omega.{arith}
-use borrow.Author.Tests.{ltb-false, lt-ltb, eqb-false}
+use borrow.Author.Tests.{ltb-false, lt-ltb, eqb-false, ne-eqb}
 use lib.ListN.{length, getD}
-use lib.Dec.{ltb}
+use lib.Dec.{ltb, eqb}
 use Rattle.store.specs.Geometry.{Geometry}
 use Rattle.store.specs.Store.{sizeOf}
 use Rattle.store.specs.Content.{content}
@@ -15,9 +16,9 @@ use Rattle.store.specs.Calls.{first}
 use Rattle.store.specs.Blocks.{need}
 use Rattle.store.proofs.ArrayLaws.{write-content, allocate-content, deallocate-content, copy-content, clone-content, EditsArray, unedited, count-is, length-content}
 use Rattle.compound.specs.Operation.{Op, GETFH, RESTOREFH, SAVEFH, PUTFH, READ, READ-PLUS, WRITE, ALLOCATE, DEALLOCATE, SEEK, COPY, CLONE}
-use Rattle.compound.specs.Run.{State, noFile, fileOf, errors, effect}
+use Rattle.compound.specs.Run.{State, noFile, fileOf, errors, effect, perform, Event}
 use Rattle.compound.specs.Arrays.{arrayOp, arrayEdit}
-use Rattle.compound.proofs.StepLaws.{Ready, all-clear, or-left, or-right, file-ok, source-fits, clone-tests}
+use Rattle.compound.proofs.StepLaws.{Ready, all-clear, or-left, or-right, file-ok, source-fits, clone-tests, performed, Performed, refused, nospc, done}
 
 module _ (g : Geometry) (pos : 0 < g .B) (x : State) (r : Ready g x) where
   kept : EditsArray g (x .store) (x .store) (fileOf (x .current)) (λ xs. xs)
@@ -72,3 +73,13 @@ module _ (g : Geometry) (pos : 0 < g .B) (x : State) (r : Ready g x) where
   pub effect-size : (o : Op) → first (errors g x o) ≡ 0 → need (effect g x o .store) ≤ g .N
       → (f : ℕ) → f < g .F → sizeOf (effect g x o .store) f ≡ length (arrayEdit g x o f)
   effect-size o h room f hf = sym (length-content g (effect g x o .store) f) ∙ ap length (effect-content o h room f hf)
+
+  -- an operation answered OK edits the arrays, any other answer leaves each file's content
+  pub perform-content : (v : List ℕ) (o : Op) (next f : ℕ) → f < g .F
+      → content g (perform g v x o next .after .store) f ≡ cond (eqb (perform g v x o next .status) 0) (arrayEdit g x o f) (content g (x .store) f)
+  perform-content v o next f hf = go (performed g v x o next)
+    where
+      go : {z : Event} → Performed g v x o next z → content g (z .after .store) f ≡ cond (eqb (z .status) 0) (arrayEdit g x o f) (content g (x .store) f)
+      go (refused e h) = rw (ne-eqb (suc e) 0 (λ (p : suc e ≡ 0). omega arith))
+      go (nospc h l) = refl
+      go (done h l) = effect-content o h l f hf

@@ -3,4 +3,7 @@ pub mod ClaimProof
 pub mod AnswerLaws
 pub mod ReplyLaws
 pub mod ArrayLaws
+pub mod Script
 pub mod Points
+pub mod Examples
+pub mod WrongServers

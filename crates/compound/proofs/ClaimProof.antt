@@ -1,18 +1,18 @@
 -- The claim about lists of calls, proved.
-use Prim.Native.Nat.{ℕ, zero, suc, _+_, _-_, _*_, _%_, _^_, _≤_, _<_}
+use Prim.Native.Nat.{ℕ, zero, suc, _+_, _-_, _*_, _%_, _≤_, _<_}
 use mathlib.Core.Path.{_≡_, refl, sym, _∙_, subst}
-use mathlib.Core.Bool.{Bool, true, false, cond, _&&_, _||_, not}
+use mathlib.Core.Bool.{Bool, true, false, cond, _&&_, not}
 use mathlib.Core.Option.{Option, none, some}
 use mathlib.Core.List.{List, [], _∷_, _++_, List·Memᴰ, List·Memᴰ·not-nil, List·Memᴰ·cases-cons, List·Memᴰ·head, List·Memᴰ·tail}
 use mathlib.Core.Logic.{_↔_, _≢_, _⊎_, inl, inr}
-use native.Mathlib.Nat.{mul-le-mul, lt-of-mul-lt-mul-right}
+use native.Mathlib.Nat.{lt-of-mul-lt-mul-right}
 use native.Mathlib.Omega.{arith}
-use borrow.Author.Tests.{eqb-true, eqb-false, not-true, leb-true}
+use borrow.Author.Tests.{eqb-false, not-true}
 use lib.ListN.{length, getD, take, drop, replicate}
-use lib.Dec.{leb, ltb, eqb}
+use lib.Dec.{leb, eqb}
 use Rattle.xdr.specs.Encode.{bool, opaque}
 use Rattle.xdr.specs.Decode.{Parsed, got, fault, number}
-use Rattle.store.specs.Geometry.{Geometry, goodGeometry}
+use Rattle.store.specs.Geometry.{Geometry}
 use Rattle.store.specs.Store.{Store, sizeOf, wordOf, goodLengths}
 use Rattle.store.specs.Blocks.{need}
 use Rattle.store.specs.Content.{byteAt}
@@ -20,8 +20,9 @@ use Rattle.store.specs.Sound.{sound}
 use Rattle.store.specs.Read.{atEnd}
 use Rattle.store.specs.Calls.{first}
 use Rattle.store.proofs.FileLaws.{Sound}
-use Rattle.store.proofs.DeallocateLaws.{and-left, and-right}
+use Rattle.store.proofs.BoolLaws.{and-left, and-right}
 use Rattle.store.proofs.SoundLaws.{sound-facts, lengths-test, sound-test}
+use Rattle.store.proofs.GeometryLaws.{Good, good, block-pos, file-small}
 use Rattle.compound.specs.Status.{NOSPC, NOTSUPP, SEQUENCE-POS, OP-ILLEGAL}
 use Rattle.compound.specs.Operation.{Op, GETFH, RESTOREFH, SAVEFH, PUTFH, READ, READ-PLUS, WRITE, ALLOCATE, DEALLOCATE, SEEK, COPY, CLONE, Item, op, bad, itemAt, items, numberItem, argsItem, unserved, argsOf, Header, header}
 use Rattle.compound.specs.Run.{State, Event, failed, errors, effect, body, perform, reached, noFile, fileOf}
@@ -263,48 +264,9 @@ step-nospc pos (undecoded x k e r a b) = record {
   undecoded = λ k′ e′ q s. a s;
 }
 
--- ---- the geometry's bounds
-
-pub record Bounds (g : Geometry) : Type 0 where
-  pub pos : 0 < g .B
-  pub small : g .S * g .B < 2 ^ 64
-
-bounds : (g : Geometry) → goodGeometry g ≡ true → Bounds g
-unfolding goodGeometry
-bounds g h =
-    let a : Bool = ltb 0 (g .F) && leb (g .F) 64 in
-    let b : Bool = ltb 0 (g .S) && leb (g .S) 1024 in
-    let c : Bool = ltb 0 (g .N) && leb (g .N) 65536 in
-    let t : Bool = eqb (g .B) 512 || eqb (g .B) 1024 || eqb (g .B) 2048 || eqb (g .B) 4096 in
-    let size = block (or-true (eqb (g .B) 512 || eqb (g .B) 1024 || eqb (g .B) 2048) (eqb (g .B) 4096) (and-right (a && b && c) t h)) in
-    let s : g .S ≤ 1024 = leb-true (g .S) 1024 (and-right (ltb 0 (g .S)) (leb (g .S) 1024) (and-right a b (and-left (a && b) c (and-left (a && b && c) t h)))) in
-    record { pos = omega (arith, size); small = omega (arith, mul-le-mul s (size .1)) }
-  where
-    or-true : (x y : Bool) → x || y ≡ true → (x ≡ true) ⊎ (y ≡ true)
-    or-true true y e = inl refl
-    or-true false y e = inr e
-
-    block₂ : (eqb (g .B) 512 || eqb (g .B) 1024 ≡ true) → (1 ≤ g .B) × (g .B ≤ 4096)
-    block₂ e = go (or-true (eqb (g .B) 512) (eqb (g .B) 1024) e)
-      where
-        go : (eqb (g .B) 512 ≡ true) ⊎ (eqb (g .B) 1024 ≡ true) → (1 ≤ g .B) × (g .B ≤ 4096)
-        go (inl e) = omega (arith, eqb-true (g .B) 512 e)
-        go (inr e) = omega (arith, eqb-true (g .B) 1024 e)
-
-    block₃ : (eqb (g .B) 512 || eqb (g .B) 1024 || eqb (g .B) 2048 ≡ true) → (1 ≤ g .B) × (g .B ≤ 4096)
-    block₃ e = go (or-true (eqb (g .B) 512 || eqb (g .B) 1024) (eqb (g .B) 2048) e)
-      where
-        go : (eqb (g .B) 512 || eqb (g .B) 1024 ≡ true) ⊎ (eqb (g .B) 2048 ≡ true) → (1 ≤ g .B) × (g .B ≤ 4096)
-        go (inl e) = block₂ e
-        go (inr e) = omega (arith, eqb-true (g .B) 2048 e)
-
-    block : (eqb (g .B) 512 || eqb (g .B) 1024 || eqb (g .B) 2048 ≡ true) ⊎ (eqb (g .B) 4096 ≡ true) → (1 ≤ g .B) × (g .B ≤ 4096)
-    block (inl e) = block₃ e
-    block (inr e) = omega (arith, eqb-true (g .B) 4096 e)
-
 -- ---- the promises
 
-module _ (g : Geometry) (bd : Bounds g) where
+module _ (g : Geometry) (bd : Good g) where
   -- a decoded operation
   record As (z : Event) (o : Op) : Type 0 where
     verifier : List ℕ
@@ -318,8 +280,8 @@ module _ (g : Geometry) (bd : Bounds g) where
       record {
         verifier = v;
         next = next;
-        ready = rw (performed-before g (bd .pos) p) r;
-        how = subst (λ y. Performed g v y o next z) (sym (performed-before g (bd .pos) p)) (subst (λ y. Performed g v x y next z) same p);
+        ready = rw (performed-before g (block-pos bd) p) r;
+        how = subst (λ y. Performed g v y o next z) (sym (performed-before g (block-pos bd) p)) (subst (λ y. Performed g v x y next z) same p);
       }
   as-op (undecoded x k e′ r a b) o nx e = absurd (op≢bad (sym e))
 
@@ -331,7 +293,7 @@ module _ (g : Geometry) (bd : Bounds g) where
 
   -- ---- reserved slots stay reserved
 
-  back-gives : (x : State) (r : Ready g x) (o : Op) (next e k : ℕ) (b : List ℕ) → Back g (bd .pos) x r o e k
+  back-gives : (x : State) (r : Ready g x) (o : Op) (next e k : ℕ) (b : List ℕ) → Back g (block-pos bd) x r o e k
       → GivesBack g e k (record { item = op o next; before = x; status = 0; after = effect g x o; body = b })
   back-gives x r GETFH next e k b q = absurd q
   back-gives x r RESTOREFH next e k b q = absurd q
@@ -365,7 +327,7 @@ module _ (g : Geometry) (bd : Bounds g) where
       go : {z : Event} → Performed g v x o next z → wordOf g (z .before .store .words) e k % 2 ≡ 1 → (GivesBack g e k z → ⊥) → wordOf g (z .after .store .words) e k % 2 ≡ 1
       go (refused s h) q d = q
       go (nospc h l) q d = q
-      go (done h l) q d = effect-r g (bd .pos) x r o h e k he hk q (λ b. d (back-gives x r o next e k (body g v x o) b))
+      go (done h l) q d = effect-r g (block-pos bd) x r o h e k he hk q (λ b. d (back-gives x r o next e k (body g v x o) b))
 
   chain-keeps : {a b : Store} {zs : List Event} → Chain g a zs b → (e k : ℕ) → e < g .F → k < g .S → wordOf g (a .words) e k % 2 ≡ 1
       → ((z : Event) → List·Memᴰ z zs → GivesBack g e k z → ⊥) → wordOf g (b .words) e k % 2 ≡ 1
@@ -388,11 +350,11 @@ module _ (g : Geometry) (bd : Bounds g) where
       go (refused s h) r c k = absurd (omega (arith, k))
       go (nospc h l) r c k = absurd (omega (arith, k))
       go {x = x} (done h l) r c k =
-          let t = allocate-region g (bd .pos) x r i o n h in
+          let t = allocate-region g (block-pos bd) x r i o n h in
           record {
             region = rw (current-file x f c) at (t .file);
             fits = t .fits;
-            reserved = λ q s. rw (current-file x f c) at (allocate-done g (bd .pos) x r i o n h q (s .0) (s .1));
+            reserved = λ q s. rw (current-file x f c) at (allocate-done g (block-pos bd) x r i o n h q (s .0) (s .1));
           }
 
   write-ok : {w : Event} (f o n p s : ℕ) (d : List ℕ) → As w (WRITE (replicate 16 0) p s d) → Current w f → Allocated f o n (w .before .store)
@@ -402,12 +364,12 @@ module _ (g : Geometry) (bd : Bounds g) where
       go : {v : List ℕ} {x : State} {next : ℕ} {w : Event} → Performed g v x (WRITE (replicate 16 0) p s d) next w → Ready g x → x .current ≡ some f
           → Allocated f o n (x .store) → w .status ≡ 0
       go {x = x} (refused e h) r c al =
-          absurd (omega (arith, h, write-clear g (bd .pos) x r p s d (current-some x f c) (omega (arith, al .fits)) (bd .small)))
+          absurd (omega (arith, h, write-clear g (block-pos bd) x r p s d (current-some x f c) (omega (arith, al .fits)) (file-small bd)))
       go {x = x} (nospc h m) r c al =
           absurd (omega (
             arith,
             m,
-            write-has-room g (bd .pos) x r (replicate 16 0) p s d (rw (current-file x f c) (al .region)) l (omega (arith, al .fits))
+            write-has-room g (block-pos bd) x r (replicate 16 0) p s d (rw (current-file x f c) (al .region)) l (omega (arith, al .fits))
                 (λ k u v. rw (current-file x f c) (al .reserved k (omega arith, omega arith))),
           ))
       go (done h m) r c al = refl
@@ -423,9 +385,9 @@ module _ (g : Geometry) (bd : Bounds g) where
 
   between : {st last : Store} (zs pre mid post : List Event) (a w : Event) → Chain g st zs last → zs ≡ pre ++ (a ∷ (mid ++ (w ∷ post))) → Between a mid w
   between {st} {last} zs pre mid post a w c e =
-      let s = chain-split g (bd .pos) pre (subst (λ y. Chain g st y last) e c) in
+      let s = chain-split g (block-pos bd) pre (subst (λ y. Chain g st y last) e c) in
       let u = uncons (s .2) in
-      let t = chain-split g (bd .pos) mid (u .2) in
+      let t = chain-split g (block-pos bd) mid (u .2) in
       let v = uncons (t .2) in
       record { first = u .0; second = v .0; between = subst (λ y. Chain g (a .after .store) mid y) (sym (v .1)) (t .1) }
 
@@ -457,7 +419,7 @@ module _ (g : Geometry) (bd : Bounds g) where
           → (f < g .F) × Has f o d (z .after .store)
       go (refused s h) r c k = absurd (omega (arith, k))
       go (nospc h l) r c k = absurd (omega (arith, k))
-      go {x = x} (done h l) r c k = (r .current f c, λ p lo hi. rw (current-file x f c) at (write-done g (bd .pos) x r i o s d h l p lo hi))
+      go {x = x} (done h l) r c k = (r .current f c, λ p lo hi. rw (current-file x f c) at (write-done g (block-pos bd) x r i o s d h l p lo hi))
 
   -- an operation that does not edit f leaves its bytes
   step-has : {z : Event} → Step g z → (f o : ℕ) (d : List ℕ) → f < g .F → (Edits f z → ⊥) → Has f o d (z .before .store) → Has f o d (z .after .store)
@@ -468,7 +430,7 @@ module _ (g : Geometry) (bd : Bounds g) where
       go (refused s h) e has = has
       go (nospc h l) e has = has
       go (done h l) e has = λ i lo hi.
-          let c = effect-change g (bd .pos) x r q h l in
+          let c = effect-change g (block-pos bd) x r q h l in
           let other : target x q ≢ some f = λ t. e (record { operation = q; next = next; is = refl; file = t; done = refl }) in
           (c .byte f i hf other (omega (arith, has i lo hi .1, r .sound .fits f hf)) ∙ has i lo hi .0, rw (c .size f other) (has i lo hi .1))
 
@@ -484,9 +446,9 @@ module _ (g : Geometry) (bd : Bounds g) where
     where
       go : {v : List ℕ} {x : State} {next : ℕ} {z : Event} → Performed g v x (READ (replicate 16 0) p n) next z → Ready g x → x .current ≡ some f → Has f o d (x .store)
           → OK z × (z .body ≡ bool (atEnd (x .store) f p n) ++ opaque (take n (drop (p - o) d)))
-      go {x = x} (refused s h) r c has = absurd (omega (arith, h, read-clear g (bd .pos) x r p n (current-some x f c)))
-      go {x = x} (nospc h l) r c has = absurd (omega (arith, l, read-room g (bd .pos) x r (replicate 16 0) p n))
-      go {v} {x = x} (done h l) r c has = (refl, read-body g (bd .pos) x r v (replicate 16 0) f o p n d c lo hi g2 has)
+      go {x = x} (refused s h) r c has = absurd (omega (arith, h, read-clear g (block-pos bd) x r p n (current-some x f c)))
+      go {x = x} (nospc h l) r c has = absurd (omega (arith, l, read-room g (block-pos bd) x r (replicate 16 0) p n))
+      go {v} {x = x} (done h l) r c has = (refl, read-body g (block-pos bd) x r v (replicate 16 0) f o p n d c lo hi g2 has)
 
   read-back : {st last : Store} (zs : List Event) → Chain g st zs last → (f o p n : ℕ) (d : List ℕ) (r : Event) → ReadAfter zs f o p n d r → OK r × ReadsBack f o p n d r
   read-back zs c f o p n d r a =
@@ -498,17 +460,17 @@ module _ (g : Geometry) (bd : Bounds g) where
 -- ---- the claim
 
 pub promise : Claim
-promise g st good lengths snd cs os t keeps =
-    let bd = bounds g good in
+promise g st fine lengths snd cs os t keeps =
+    let bd = good g fine in
     let same = trace-is t in
-    let s = sound-facts g (bd .pos) st lengths snd in
-    let w = whole g (bd .pos) cs st s (subst (λ y. Keeps g cs y) same keeps) in
+    let s = sound-facts g (block-pos bd) st lengths snd in
+    let w = whole g (block-pos bd) cs st s (subst (λ y. Keeps g cs y) same keeps) in
     record {
       equal = same;
-      sound-after = λ o m. after o (w .sounds o (subst (λ y. List·Memᴰ o y) same m)) (bd .pos);
+      sound-after = λ o m. after o (w .sounds o (subst (λ y. List·Memᴰ o y) same m)) (block-pos bd);
       reservation = λ f o n p d z r. reservation g bd (history st cs) (w .chain) f o n p d z r;
       read-back = λ f o p n d z r. read-back g bd (history st cs) (w .chain) f o p n d z r;
-      nospc = λ z m. step-nospc (bd .pos) (chain-mem g (bd .pos) (w .chain) z m);
+      nospc = λ z m. step-nospc (block-pos bd) (chain-mem g (block-pos bd) (w .chain) z m);
     }
   where
     after : (o : Outcome) → Sound g (o .store) → 0 < g .B → (goodLengths g (o .store) ≡ true) × (sound g (o .store) ≡ true)

@@ -27,10 +27,11 @@ use Rattle.store.specs.Read.{readCount, atEnd}
 use Rattle.store.specs.Calls.{first}
 use Rattle.store.proofs.ViewLaws.{length-tab, getD-tab}
 use Rattle.store.proofs.FileLaws.{Sound, Edited, still-sound, apart, slot-in, slot-bytes}
-use Rattle.store.proofs.WriteLaws.{and-false, inside, write-is, write-edited, write-r, write-bytes, write-room}
+use Rattle.store.proofs.BoolLaws.{and-false, and-left, and-right, and-cases, or-left, or-right, not-is}
+use Rattle.store.proofs.WriteLaws.{inside, write-is, write-edited, write-r, write-bytes, write-room}
 use Rattle.store.proofs.AllocateLaws.{allocate-edited, allocate-r, allocate-reserved}
 use Rattle.store.proofs.CloneLaws.{clone-edited, clone-r}
-use Rattle.store.proofs.DeallocateLaws.{deallocate-edited, deallocate-r, deallocate-is, Whole, whole-is, and-left, and-right}
+use Rattle.store.proofs.DeallocateLaws.{deallocate-edited, deallocate-r, deallocate-is, Whole, whole-is}
 use Rattle.store.proofs.CopyLaws.{copy-is-write}
 use Rattle.compound.specs.Status.{NOSPC}
 use Rattle.compound.specs.Operation.{Op, GETFH, RESTOREFH, SAVEFH, PUTFH, READ, READ-PLUS, WRITE, ALLOCATE, DEALLOCATE, SEEK, COPY, CLONE, op}
@@ -56,22 +57,6 @@ all-clear [] p h = tt
 all-clear (t ∷ ts) p h =
     let c = none-applies (t .0) (t .1) (first ts) (and-left (ltb 0 (t .1)) (positive ts) p) h in
     (c .0, all-clear ts (and-right (ltb 0 (t .1)) (positive ts) p) (c .1))
-
-pub or-left : (a b : Bool) → a || b ≡ false → a ≡ false
-or-left true b e = e
-or-left false b e = refl
-
-pub or-right : (a b : Bool) → a || b ≡ false → b ≡ false
-or-right true b e = absurd (true≢false e)
-or-right false b e = e
-
-and-cases : (a b : Bool) → a && b ≡ false → (a ≡ false) ⊎ (b ≡ false)
-and-cases true b e = inr e
-and-cases false b e = inl refl
-
-not-is : (a : Bool) → not a ≡ false → a ≡ true
-not-is true e = refl
-not-is false e = absurd (true≢false e)
 
 -- ---- a sound state: handles name files
 

@@ -16,8 +16,9 @@ use Rattle.store.specs.Content.{slotByte, byteAt}
 use Rattle.store.specs.Sound.{ceilDiv}
 use Rattle.store.specs.Edit.{each, within}
 use Rattle.store.specs.Clone.{share, planClone, editClone}
+use Rattle.store.specs.Tables.{InPool}
 use Rattle.store.proofs.WriteLaws.{inside, outside}
-use Rattle.store.proofs.PlanLaws.{each-keeps, SameR, each-sameR, share-sameR, InPool, inPool-set}
+use Rattle.store.proofs.PlanLaws.{each-keeps, SameR, each-sameR, share-sameR, inPool-set}
 use Rattle.store.proofs.ViewLaws.{Local, plan-before, plan-after}
 use Rattle.store.proofs.FileLaws.{div-lt, ceil-le, le-ceil, Sound, Edited, apart}
 use Rattle.store.proofs.AllocateLaws.{same-block}

@@ -17,10 +17,12 @@ use Rattle.store.specs.Blocks.{used, owed}
 use Rattle.store.specs.Content.{slotByte, byteAt}
 use Rattle.store.specs.Edit.{each, ownUnless, within, firstSlot, slotCount}
 use Rattle.store.specs.Deallocate.{giveBack, whole, stays, planGiveBack, planDeallocate, zeroBytes, editDeallocate}
-use Rattle.store.proofs.PlanLaws.{each-keeps, SameR, each-sameR, ownUnless-sameR, InPool, plan-pool}
+use Rattle.store.specs.Tables.{InPool}
+use Rattle.store.proofs.PlanLaws.{each-keeps, SameR, each-sameR, ownUnless-sameR, plan-pool}
 use Rattle.store.proofs.ViewLaws.{Local, plan-before, plan-after, own-local, Wrote, wrote}
 use Rattle.store.proofs.FileLaws.{div-le, div-lt, ceil-le, Sound, Edited, other-words, slots-fit, slot-in}
 use Rattle.store.proofs.WriteLaws.{outside, inside, file-mine, file-other}
+use Rattle.store.proofs.BoolLaws.{and-left, and-right}
 
 -- each slot keeps its word, or `given` names it and its word is 0
 pub data Given (at : ℕ) (given : ℕ → Bool) (ws ws′ : List ℕ) (p : ℕ) : Type 0 where
@@ -80,14 +82,6 @@ was-given at given (suc n) k ws h q l u e = go (was-given at given n (suc k) (gi
         → Dec (q ≡ k) → getD (each (giveBack at given) (giveBack at given ws k) (suc k) n) (at + q) 0 ≡ 0
     go ih (yes z) = rw (z, plan-before at (giveBack at given) (giveBack-local at given) n (suc k) (at + k) (giveBack at given ws k) (omega arith)) (giveBack-now at given ws k (omega arith) (rw z at e))
     go ih (no d) = ih q (omega (arith, d)) (omega arith) e
-
-pub and-left : (a b : Bool) → a && b ≡ true → a ≡ true
-and-left true b e = refl
-and-left false b e = e
-
-pub and-right : (a b : Bool) → a && b ≡ true → b ≡ true
-and-right true b e = e
-and-right false b e = absurd (false≢true e)
 
 -- what `whole` says
 pub record Whole (g : Geometry) (size off end k : ℕ) : Type 0 where

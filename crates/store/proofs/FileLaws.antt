@@ -13,7 +13,7 @@ use Rattle.store.specs.Blocks.{used, owed}
 use Rattle.store.specs.Content.{byteAt}
 use Rattle.store.specs.Sound.{ceilDiv}
 use Rattle.store.specs.Edit.{each, firstSlot, slotCount}
-use Rattle.store.proofs.PlanLaws.{InPool}
+use Rattle.store.specs.Tables.{InPool}
 use Rattle.store.proofs.ViewLaws.{Local, plan-before, plan-after}
 
 -- ---- places and slots

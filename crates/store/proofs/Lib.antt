@@ -1,3 +1,5 @@
+pub mod BoolLaws
+pub mod GeometryLaws
 pub mod CountLaws
 pub mod NeedLaws
 pub mod PlanLaws

@@ -16,6 +16,7 @@ use Rattle.store.specs.Store.{word, isHole}
 use Rattle.store.specs.Blocks.{isShared, holders, top, used, owed, lowestFree}
 use Rattle.store.specs.Edit.{each, owned, own, ownUnless}
 use Rattle.store.specs.Clone.{share}
+use Rattle.store.specs.Tables.{InPool}
 use Rattle.store.proofs.CountLaws.{sumTo-point}
 use Rattle.store.proofs.NeedLaws.{holders-other, holders-gained, holders-lost, need-hole, need-shared, lowestFree-free, lowestFree≤used, used-to, top-set}
 
@@ -213,9 +214,6 @@ own-reserved at n k ws inside reserved = each-keeps (NoMore ws) (own at) n k ws 
 -- ---- the pool
 
 -- every word's block is in a pool of n blocks
-abbrev pub InPool : ℕ → List ℕ → Type 0
-InPool n ws = (p : ℕ) → getD ws p 0 / 2 ≤ n
-
 pub inPool-set : (n : ℕ) (ws : List ℕ) (i x : ℕ) → InPool n ws → x / 2 ≤ n → InPool n (set ws i x)
 inPool-set n [] i x h hx p = h p
 inPool-set n (w ∷ ws) zero x h hx zero = hx

@@ -1,8 +1,8 @@
 -- The test `sound` and the facts `Sound` say the same.
 use Prim.Native.Nat.{ℕ, zero, suc, _+_, _-_, _*_, _/_, _≤_, _<_}
-use mathlib.Core.Path.{_≡_, refl, sym, _∙_}
-use mathlib.Core.Bool.{Bool, true, false, _&&_, _||_, true≢false}
-use mathlib.Core.Logic.{_≢_, _⊎_, inl, inr}
+use mathlib.Core.Path.{_≡_, refl, _∙_}
+use mathlib.Core.Bool.{Bool, true, _&&_, _||_}
+use mathlib.Core.Logic.{_⊎_, inl, inr}
 use native.Mathlib.Nat.{le-refl, le-of-suc-le-suc, eq-or-lt-of-le, not-suc-le-zero, add-sub-of-le, le-div-iff-mul-le, le-step, mul-le-mul-right}
 use native.Mathlib.Decide.{decLt}
 use native.Mathlib.Omega.{arith}
@@ -16,23 +16,7 @@ use Rattle.store.specs.Blocks.{used, owed}
 use Rattle.store.specs.Content.{byteAt}
 use Rattle.store.specs.Sound.{ceilDiv, soundFile, sound}
 use Rattle.store.proofs.FileLaws.{div-lt, ceil-le, le-ceil, Sound}
-use Rattle.store.proofs.DeallocateLaws.{and-left, and-right}
-
-pub and-both : (a b : Bool) → a ≡ true → b ≡ true → a && b ≡ true
-and-both true b e h = h
-and-both false b e h = e
-
-or-second : (a b : Bool) → a || b ≡ true → a ≡ false → b ≡ true
-or-second true b e h = absurd (true≢false h)
-or-second false b e h = e
-
-or-inr : (a b : Bool) → b ≡ true → a || b ≡ true
-or-inr true b e = refl
-or-inr false b e = e
-
-or-inl : (a b : Bool) → a ≡ true → a || b ≡ true
-or-inl true b e = refl
-or-inl false b e = absurd (true≢false (sym e))
+use Rattle.store.proofs.BoolLaws.{and-left, and-right, and-both, or-inl, or-inr, or-second}
 
 pub allTo-at : (n : ℕ) (p : ℕ → Bool) → allTo n p ≡ true → (i : ℕ) → i < n → p i ≡ true
 allTo-at zero p h i l = absurd (not-suc-le-zero l)

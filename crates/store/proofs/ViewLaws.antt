@@ -16,7 +16,8 @@ use Rattle.store.specs.Geometry.{Geometry}
 use Rattle.store.specs.Store.{word, isHole}
 use Rattle.store.specs.Content.{slotByte, tab}
 use Rattle.store.specs.Edit.{each, owned, own, ownUnless, slotBytes, overlay, storeSlot, storeAt, storeUnless}
-use Rattle.store.proofs.PlanLaws.{each-ext, OwnedSlot, own-slot, two-holders, ownUnless-sameR, InPool}
+use Rattle.store.specs.Tables.{InPool}
+use Rattle.store.proofs.PlanLaws.{each-ext, OwnedSlot, own-slot, two-holders, ownUnless-sameR}
 
 -- ---- lists
 

@@ -1,6 +1,6 @@
 -- From slots to files: what storing a region's bytes, slot by slot, does to the bytes of each file; and WRITE.
 use Prim.Native.Nat.{ℕ, _+_, _-_, _*_, _/_, _%_, _≤_, _<_, max}
-use mathlib.Core.Path.{_≡_, refl, _∙_}
+use mathlib.Core.Path.{_≡_, _∙_}
 use mathlib.Core.Bool.{Bool, true, false, cond, _&&_, not}
 use mathlib.Core.Logic.{_≢_, _⊎_, inl, inr}
 use native.Mathlib.Nat.{le-refl, le-trans, mul-le-mul-right, div-add-mod', mod-lt}
@@ -15,13 +15,11 @@ use Rattle.store.specs.Blocks.{used, owed}
 use Rattle.store.specs.Content.{byteAt}
 use Rattle.store.specs.Edit.{each, own, within, firstSlot, slotCount}
 use Rattle.store.specs.Write.{planWrite, writeBytes, editWrite}
-use Rattle.store.proofs.PlanLaws.{InPool, SameR, each-sameR, own-sameR, plan-pool, own-reserved}
+use Rattle.store.specs.Tables.{InPool}
+use Rattle.store.proofs.PlanLaws.{SameR, each-sameR, own-sameR, plan-pool, own-reserved}
 use Rattle.store.proofs.ViewLaws.{view, plan-after, own-local, Wrote, wrote}
 use Rattle.store.proofs.FileLaws.{div-le, div-ge, div-lt, ceil-le, Sound, Edited, apart, in-file, other-words, slots-fit, slot-in}
-
-pub and-false : (a : Bool) → a && false ≡ false
-and-false true = refl
-and-false false = refl
+use Rattle.store.proofs.BoolLaws.{and-false}
 
 pub outside : (off end i : ℕ) → (i < off) ⊎ (end ≤ i) → within off end i ≡ false
 outside off end i (inl h) = rw (lt-leb off i h)

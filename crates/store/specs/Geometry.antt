@@ -2,6 +2,7 @@
 use Prim.Native.Nat.{ℕ}
 use mathlib.Core.Bool.{Bool, _&&_, _||_}
 use lib.Dec.{leb, ltb, eqb}
+use Rattle.store.specs.declared.geometry.Geometry as Code
 
 -- F files of S slots, a pool of N blocks of B bytes
 pub record Geometry : Type 0 where
@@ -10,8 +11,14 @@ pub record Geometry : Type 0 where
   pub N : ℕ
   pub B : ℕ
 
+-- the code's words for them
+abbrev pub geometryOf : Code.Geometry → Geometry
+geometryOf g = record { F = g .files; S = g .slots; N = g .blocks; B = g .«block_size» }
+
+unfoldable pub goodBlockSize : ℕ → Bool
+goodBlockSize b = eqb b 512 || eqb b 1024 || eqb b 2048 || eqb b 4096
+
 -- inside document 01's limits (refusal 1)
 unfoldable pub goodGeometry : Geometry → Bool
 goodGeometry g =
-    (ltb 0 (g .F) && leb (g .F) 64) && (ltb 0 (g .S) && leb (g .S) 1024) && (ltb 0 (g .N) && leb (g .N) 65536)
-    && (eqb (g .B) 512 || eqb (g .B) 1024 || eqb (g .B) 2048 || eqb (g .B) 4096)
+    (ltb 0 (g .F) && leb (g .F) 64) && (ltb 0 (g .S) && leb (g .S) 1024) && (ltb 0 (g .N) && leb (g .N) 65536) && goodBlockSize (g .B)

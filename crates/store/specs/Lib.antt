@@ -2,6 +2,7 @@ pub mod Geometry
 pub mod Count
 pub mod Store
 pub mod Blocks
+pub mod Tables
 pub mod Content
 pub mod Sound
 pub mod Edit

@@ -1,1 +1,5 @@
 // The store: geometry, tables, soundness, counts, the edits and what is read. The rules stand in specs/.
+mod geometry;
+
+pub use geometry::Geometry;
+pub use geometry::good_lengths;

@@ -1,0 +1,22 @@
+-- What is known of the tables where an inner function is called: contracts cite these records.
+use Prim.Native.Nat.{ℕ, _/_, _≤_, _<_}
+use mathlib.Core.Path.{_≡_}
+use mathlib.Core.Bool.{true}
+use mathlib.Core.List.{List}
+use lib.ListN.{length, getD}
+use Rattle.store.specs.Geometry.{Geometry, goodGeometry}
+use Rattle.store.specs.Store.{Store, goodLengths}
+use Rattle.store.specs.Blocks.{holders}
+
+-- a good geometry, and tables of its lengths
+pub record Shaped (g : Geometry) (st : Store) : Type 0 where
+  pub geometry : goodGeometry g ≡ true
+  pub lengths : goodLengths g st ≡ true
+
+-- every word names one of n blocks, or none
+abbrev pub InPool : ℕ → List ℕ → Type 0
+InPool n ws = (p : ℕ) → getD ws p 0 / 2 ≤ n
+
+-- the table of holders: for each block the number of slots that hold it
+pub record Tallied (ws counts : List ℕ) : Type 0 where
+  pub each : (b : ℕ) → b < length counts → getD counts b 0 ≡ holders b ws

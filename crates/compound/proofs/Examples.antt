@@ -5,26 +5,11 @@ use mathlib.Core.Path.{_≡_, refl}
 use mathlib.Core.Bool.{true, false}
 use mathlib.Core.List.{List, [], _∷_, _++_, map}
 use lib.ListN.{replicate}
-use Rattle.xdr.specs.Encode.{be, u32, u64, bool, opaque}
-use Rattle.xdr.specs.Bytes.{splice, partOf}
-use Rattle.xdr.specs.Decode.{fixedAt, fixed, number, upTo, padded, opaqueAt, opaqueUpTo}
-use Rattle.store.specs.Geometry.{goodGeometry}
-use Rattle.store.specs.Store.{goodLengths, emptyStore}
-use Rattle.store.specs.Blocks.{used, owed, lowestFree}
-use Rattle.store.specs.Content.{byteAt}
-use Rattle.store.specs.Sound.{soundFile, sound}
-use Rattle.store.specs.Edit.{owned, own, storeSlot, storeAt}
-use Rattle.store.specs.Write.{planWrite, writeBytes, editWrite}
-use Rattle.store.specs.Clone.{share, planClone, editClone}
-use Rattle.store.specs.Allocate.{reserve, planAllocate, editAllocate}
-use Rattle.store.specs.Deallocate.{whole, giveBack, planGiveBack, stays, planDeallocate, zeroBytes, editDeallocate}
-use Rattle.store.specs.Copy.{planCopy, copyBytes, editCopy}
-use Rattle.store.specs.Read.{pieces, join}
-use Rattle.compound.specs.Operation.{itemAt, items, header, requestBytes, SAVEFH, READ, READ-PLUS, WRITE, DEALLOCATE, COPY, CLONE, Op}
-use Rattle.compound.specs.Run.{errors, effect, readReply, body, perform, reached, readPlusReply}
-use Rattle.compound.specs.Serve.{replyBytes, compound, served, refusal, serve}
-use Rattle.compound.specs.Claim.{answer, machine, zeroId}
-use Rattle.compound.proofs.Script.{Told, Run, machineTold, on, replied, result, put}
+use Rattle.xdr.specs.Encode.{u32, u64}
+use Rattle.store.specs.Clone.{share}
+use Rattle.compound.specs.Operation.{SAVEFH, READ, READ-PLUS, WRITE, DEALLOCATE, COPY, CLONE, Op}
+use Rattle.compound.specs.Claim.{zeroId}
+use Rattle.compound.proofs.Script.{Told, Run, machineTold, on, replied, result, put, rules}
 
 -- file 0 has three blocks, and file 1 shares the first
 abbrev base : List Op
@@ -88,5 +73,5 @@ runs =
     ∷ []
 
 pub examples-hold : map machineTold runs ≡ map (λ r. r .answers) runs
-unfolding be u32 u64 bool opaque splice partOf fixedAt fixed number upTo padded opaqueAt opaqueUpTo goodGeometry goodLengths emptyStore used owed lowestFree byteAt soundFile sound owned own storeSlot storeAt planWrite writeBytes editWrite share planClone editClone reserve planAllocate editAllocate itemAt items header requestBytes errors effect readReply body perform reached replyBytes compound served refusal serve answer machine whole giveBack planGiveBack stays planDeallocate zeroBytes editDeallocate planCopy copyBytes editCopy pieces join readPlusReply
+unfolding rules
 examples-hold = refl

@@ -3,24 +3,10 @@ use Prim.Native.Nat.{_+_}
 use mathlib.Core.Path.{_≡_, refl}
 use mathlib.Core.List.{List, [], _∷_, _++_, map}
 use lib.ListN.{replicate}
-use Rattle.xdr.specs.Encode.{be, u32, u64, bool, opaque}
-use Rattle.xdr.specs.Bytes.{splice, partOf}
-use Rattle.xdr.specs.Decode.{fixedAt, fixed, number, upTo, padded, opaqueAt, opaqueUpTo}
-use Rattle.store.specs.Geometry.{goodGeometry}
-use Rattle.store.specs.Store.{goodLengths, emptyStore}
-use Rattle.store.specs.Blocks.{used, owed, lowestFree}
-use Rattle.store.specs.Content.{byteAt}
-use Rattle.store.specs.Sound.{soundFile, sound}
-use Rattle.store.specs.Edit.{owned, own, storeSlot, storeAt}
-use Rattle.store.specs.Write.{planWrite, writeBytes, editWrite}
-use Rattle.store.specs.Clone.{share, planClone, editClone}
-use Rattle.store.specs.Allocate.{reserve, planAllocate, editAllocate}
-use Rattle.store.specs.Seek.{seekFrom}
-use Rattle.compound.specs.Operation.{READ, SEEK, itemAt, items, header, requestBytes}
-use Rattle.compound.specs.Run.{errors, effect, readReply, seekReply, body, perform, reached}
-use Rattle.compound.specs.Serve.{replyBytes, compound, served, refusal, serve}
-use Rattle.compound.specs.Claim.{answer, machine, zeroId}
-use Rattle.compound.proofs.Script.{Run, machineTold, on, allocate, write, clone, replied, result, put, wrote, cloned}
+use Rattle.xdr.specs.Encode.{u32, u64}
+use Rattle.compound.specs.Operation.{READ, SEEK}
+use Rattle.compound.specs.Claim.{machine, zeroId}
+use Rattle.compound.proofs.Script.{Run, machineTold, on, allocate, write, clone, replied, result, put, wrote, cloned, rules}
 
 abbrev runs : List Run
 runs =
@@ -72,5 +58,5 @@ runs =
     ∷ []
 
 pub points-hold : map machineTold runs ≡ map (λ r. r .answers) runs
-unfolding be u32 u64 bool opaque splice partOf fixedAt fixed number upTo padded opaqueAt opaqueUpTo goodGeometry goodLengths emptyStore used owed lowestFree byteAt soundFile sound owned own storeSlot storeAt planWrite writeBytes editWrite share planClone editClone reserve planAllocate editAllocate seekFrom itemAt items header requestBytes errors effect readReply seekReply body perform reached replyBytes compound served refusal serve answer machine
+unfolding rules
 points-hold = refl

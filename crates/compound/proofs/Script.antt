@@ -2,13 +2,27 @@
 use Prim.Native.Nat.{ℕ}
 use mathlib.Core.List.{List, [], _∷_, _++_, map}
 use lib.ListN.{length, take, replicate}
-use Rattle.xdr.specs.Encode.{u32, concatMap}
-use Rattle.store.specs.Geometry.{Geometry}
-use Rattle.store.specs.Store.{emptyStore, Store}
-use Rattle.store.specs.Blocks.{used, owed}
-use Rattle.compound.specs.Operation.{Op, PUTFH, SAVEFH, WRITE, ALLOCATE, CLONE, requestBytes}
-use Rattle.compound.specs.Serve.{Outcome}
-use Rattle.compound.specs.Claim.{Call, machine, zeroId}
+use Rattle.xdr.specs.Encode.{u32, concatMap, be, u64, bool, opaque}
+use Rattle.xdr.specs.Bytes.{partOf, splice}
+use Rattle.xdr.specs.Decode.{fixedAt, fixed, number, upTo, padded, opaqueAt, opaqueUpTo}
+use Rattle.store.specs.Geometry.{Geometry, goodBlockSize, goodGeometry}
+use Rattle.store.specs.Store.{emptyStore, Store, goodLengths}
+use Rattle.store.specs.Blocks.{used, owed, lowestFree}
+use Rattle.store.specs.Content.{byteAt}
+use Rattle.store.specs.Sound.{soundFile, sound}
+use Rattle.store.specs.Edit.{owned, own, storeSlot, storeAt}
+use Rattle.store.specs.Write.{planWrite, writeBytes, editWrite}
+use Rattle.store.specs.Copy.{planCopy, copyBytes, editCopy}
+use Rattle.store.specs.Clone.{share, planClone, editClone}
+use Rattle.store.specs.Allocate.{reserve, planAllocate, editAllocate}
+use Rattle.store.specs.Deallocate.{whole, giveBack, planGiveBack, stays, planDeallocate, zeroBytes, editDeallocate}
+use Rattle.store.specs.Read.{join, pieces}
+use Rattle.store.specs.Seek.{seekFrom}
+use Rattle.store.specs.Calls.{makeRefusal, madeStore, storeRefusal, usedCount, owedCount, slotRefusal, slotView, slotIsHole}
+use Rattle.compound.specs.Operation.{Op, PUTFH, SAVEFH, WRITE, ALLOCATE, CLONE, requestBytes, itemAt, items, header}
+use Rattle.compound.specs.Serve.{Outcome, replyBytes, compound, served, refusal, serve}
+use Rattle.compound.specs.Claim.{Call, machine, zeroId, answer}
+use Rattle.compound.specs.Run.{errors, effect, readReply, readPlusReply, seekReply, body, perform, reached}
 
 -- a pool of n blocks
 abbrev pub geometry : ℕ → Geometry
@@ -75,3 +89,9 @@ pub record Run : Type 0 where
 
 abbrev pub machineTold : Run → List Told
 machineTold r = map told (machine (empty (r .pool)) (map (call (r .pool)) (r .calls)))
+
+-- ---- computing: `unfolding rules` opens every definition of the rules
+
+unfoldable pub rules : Unit {0}
+unfolding partOf splice be u32 u64 bool opaque fixedAt fixed number upTo padded opaqueAt opaqueUpTo goodBlockSize goodGeometry goodLengths emptyStore used owed lowestFree byteAt soundFile sound owned own storeSlot storeAt planWrite writeBytes editWrite planCopy copyBytes editCopy share planClone editClone reserve planAllocate editAllocate whole giveBack planGiveBack stays planDeallocate zeroBytes editDeallocate join pieces seekFrom makeRefusal madeStore storeRefusal usedCount owedCount slotRefusal slotView slotIsHole itemAt items header requestBytes errors effect readReply readPlusReply seekReply body perform reached replyBytes compound served refusal serve answer machine
+rules = tt

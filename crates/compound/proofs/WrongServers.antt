@@ -3,25 +3,15 @@
 use mathlib.Core.Path.{_≡_, refl, ap, _∙_}
 use mathlib.Core.List.{[], _∷_}
 use lib.ListN.{take, replicate}
-use Rattle.xdr.specs.Encode.{be, u32, u64, bool, opaque}
-use Rattle.xdr.specs.Bytes.{splice, partOf}
-use Rattle.xdr.specs.Decode.{fixedAt, fixed, number, upTo, padded, opaqueAt, opaqueUpTo}
-use Rattle.store.specs.Geometry.{goodGeometry}
-use Rattle.store.specs.Store.{goodLengths, emptyStore, Store}
-use Rattle.store.specs.Blocks.{used, owed, lowestFree}
-use Rattle.store.specs.Content.{byteAt}
-use Rattle.store.specs.Sound.{soundFile, sound}
-use Rattle.store.specs.Edit.{owned, own, storeSlot, storeAt}
-use Rattle.store.specs.Write.{planWrite, writeBytes, editWrite}
-use Rattle.store.specs.Clone.{share, planClone, editClone}
-use Rattle.store.specs.Allocate.{reserve, planAllocate, editAllocate}
-use Rattle.store.specs.Calls.{usedCount, owedCount, storeRefusal}
-use Rattle.store.specs.Deallocate.{whole, giveBack, planGiveBack, stays, planDeallocate, zeroBytes, editDeallocate}
-use Rattle.compound.specs.Operation.{itemAt, items, header, requestBytes, WRITE, DEALLOCATE, CLONE, SAVEFH}
-use Rattle.compound.specs.Run.{errors, effect, readReply, body, perform, reached}
-use Rattle.compound.specs.Serve.{replyBytes, compound, served, refusal, serve, Outcome}
-use Rattle.compound.specs.Claim.{answer, machine, Contract, zeroId}
-use Rattle.compound.proofs.Script.{geometry, empty, call, on, allocate, write, replied, result, put}
+use Rattle.xdr.specs.Decode.{number}
+use Rattle.store.specs.Store.{Store}
+use Rattle.store.specs.Blocks.{used, owed}
+use Rattle.store.specs.Edit.{own}
+use Rattle.store.specs.Calls.{usedCount, owedCount}
+use Rattle.compound.specs.Operation.{WRITE, DEALLOCATE, CLONE, SAVEFH}
+use Rattle.compound.specs.Serve.{served, Outcome}
+use Rattle.compound.specs.Claim.{answer, Contract, zeroId}
+use Rattle.compound.proofs.Script.{geometry, empty, call, on, allocate, write, replied, result, put, rules}
 
 -- after P1: file 0 has reserved both blocks of the pool
 abbrev reserved : Store
@@ -29,28 +19,28 @@ reserved = answer (call 2 (allocate 1024)) (empty 2) .store
 
 -- one that refuses everything: this call is served
 pub refuses-everything : (o : Outcome) → Contract (call 2 (allocate 1024)) (empty 2) o → o .number ≡ 0
-unfolding be u32 u64 bool opaque splice partOf fixedAt fixed number upTo padded opaqueAt opaqueUpTo goodGeometry goodLengths emptyStore used owed lowestFree byteAt soundFile sound owned own storeSlot storeAt planWrite writeBytes editWrite share planClone editClone reserve planAllocate editAllocate itemAt items header requestBytes errors effect readReply body perform reached replyBytes compound served refusal serve answer machine
+unfolding rules
 refuses-everything o h = h .number ∙ refl
 
 -- one that says OK to everything: this WRITE to another file answers NOSPC
 pub ok-to-everything : (o : Outcome) → Contract (call 2 (write 1 (7 ∷ []))) reserved o → take 28 (o .reply) ≡ replied 28 (put ∷ result 38 28 [] ∷ [])
-unfolding be u32 u64 bool opaque splice partOf fixedAt fixed number upTo padded opaqueAt opaqueUpTo goodGeometry goodLengths emptyStore used owed lowestFree byteAt soundFile sound owned own storeSlot storeAt planWrite writeBytes editWrite share planClone editClone reserve planAllocate editAllocate itemAt items header requestBytes errors effect readReply body perform reached replyBytes compound served refusal serve answer machine
+unfolding rules
 ok-to-everything o h = ap (take 28) (h .reply) ∙ refl
 
 -- one that never edits: this WRITE gives the file a size, a block and a byte
 pub never-edits : (o : Outcome) → Contract (call 2 (write 0 (7 ∷ []))) (empty 2) o
     → (o .store .sizes ≡ 1 ∷ 0 ∷ 0 ∷ 0 ∷ []) × (take 1 (o .store .words) ≡ 2 ∷ []) × (take 2 (o .store .mem) ≡ 7 ∷ 0 ∷ [])
-unfolding be u32 u64 bool opaque splice partOf fixedAt fixed number upTo padded opaqueAt opaqueUpTo goodGeometry goodLengths emptyStore used owed lowestFree byteAt soundFile sound owned own storeSlot storeAt planWrite writeBytes editWrite share planClone editClone reserve planAllocate editAllocate itemAt items header requestBytes errors effect readReply body perform reached replyBytes compound served refusal serve answer machine
+unfolding rules
 never-edits o h = (h .sizes ∙ refl, ap (take 1) (h .words) ∙ refl, ap (take 2) (h .mem) ∙ refl)
 
 -- one that runs the first operation and echoes OK for the rest: this ALLOCATE of no bytes is INVAL
 pub echoes-ok : (o : Outcome) → Contract (call 2 (allocate 0)) (empty 2) o → take 28 (o .reply) ≡ replied 22 (put ∷ result 59 22 [] ∷ [])
-unfolding be u32 u64 bool opaque splice partOf fixedAt fixed number upTo padded opaqueAt opaqueUpTo goodGeometry goodLengths emptyStore used owed lowestFree byteAt soundFile sound owned own storeSlot storeAt planWrite writeBytes editWrite share planClone editClone reserve planAllocate editAllocate itemAt items header requestBytes errors effect readReply body perform reached replyBytes compound served refusal serve answer machine
+unfolding rules
 echoes-ok o h = ap (take 28) (h .reply) ∙ refl
 
 -- made-up counts: none used, two owed
 pub made-up-counts : (usedCount (geometry 2) reserved ≡ 0) × (owedCount (geometry 2) reserved ≡ 2)
-unfolding be u32 u64 bool opaque splice partOf fixedAt fixed number upTo padded opaqueAt opaqueUpTo goodGeometry goodLengths emptyStore used owed lowestFree byteAt soundFile sound owned own storeSlot storeAt planWrite writeBytes editWrite share planClone editClone reserve planAllocate editAllocate itemAt items header requestBytes errors effect readReply body perform reached replyBytes compound served refusal serve answer machine usedCount owedCount storeRefusal
+unfolding rules
 made-up-counts = (refl, refl)
 
 -- one that refuses an edge copy although the edit's own middle frees a block: this DEALLOCATE in a full pool answers OK
@@ -58,5 +48,5 @@ pub edge-refused : (o : Outcome)
     → Contract (call 3 (on 0 ∷ DEALLOCATE zeroId 100 1000 ∷ []))
     (answer (call 3 (on 0 ∷ WRITE zeroId 0 2 (replicate 1200 5) ∷ SAVEFH ∷ on 1 ∷ CLONE zeroId zeroId 0 0 512 ∷ [])) (empty 3) .store) o
     → take 28 (o .reply) ≡ replied 0 (put ∷ result 62 0 [] ∷ [])
-unfolding be u32 u64 bool opaque splice partOf fixedAt fixed number upTo padded opaqueAt opaqueUpTo goodGeometry goodLengths emptyStore used owed lowestFree byteAt soundFile sound owned own storeSlot storeAt planWrite writeBytes editWrite share planClone editClone reserve planAllocate editAllocate itemAt items header requestBytes errors effect readReply body perform reached replyBytes compound served refusal serve answer machine whole giveBack planGiveBack stays planDeallocate zeroBytes editDeallocate
+unfolding rules
 edge-refused o h = ap (take 28) (h .reply) ∙ refl

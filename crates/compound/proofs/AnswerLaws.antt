@@ -121,7 +121,7 @@ pub record InCall (st : Store) (cs : List Call) (pre : List Event) (z : Event) (
 regroup : (a b c d : List ℕ) → a ++ (b ++ (c ++ d)) ≡ a ++ b ++ c ++ d
 regroup a b c d = simp append-assoc
 
-results-split : (pre : List Event) (z : Event) (post : List Event)
+pub results-split : (pre : List Event) (z : Event) (post : List Event)
     → concatMap resultBytes (pre ++ (z ∷ post)) ≡ concatMap resultBytes pre ++ (resultBytes z ++ concatMap resultBytes post)
 results-split [] z post = refl
 results-split (y ∷ pre) z post =

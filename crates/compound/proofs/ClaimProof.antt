@@ -248,10 +248,10 @@ performed-item (refused e h) = refl
 performed-item (nospc h l) = refl
 performed-item (done h l) = refl
 
-op-inj : {o o′ : Op} {n n′ : ℕ} → op o n ≡ op o′ n′ → o ≡ o′
+pub op-inj : {o o′ : Op} {n n′ : ℕ} → op o n ≡ op o′ n′ → o ≡ o′
 op-inj e = cc
 
-op≢bad : {o : Op} {n k e : ℕ} → op o n ≡ bad k e → ⊥
+pub op≢bad : {o : Op} {n k e : ℕ} → op o n ≡ bad k e → ⊥
 op≢bad p = let z : _≡_ {A = ℕ} 0 1 = cc in omega arith
 
 step-nospc : {g : Geometry} (pos : 0 < g .B) {z : Event} → Step g z → NospcExactly g z

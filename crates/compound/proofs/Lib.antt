@@ -7,3 +7,4 @@ pub mod Script
 pub mod Points
 pub mod Examples
 pub mod WrongServers
+pub mod ReplyReads

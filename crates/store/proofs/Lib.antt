@@ -15,3 +15,4 @@ pub mod ReadLaws
 pub mod PieceLaws
 pub mod CopyLaws
 pub mod ArrayLaws
+pub mod CallLaws

@@ -1,5 +1,6 @@
 -- The store's own calls and their refusals (document 01, "Numbers of a refused call" and "The store").
 use Prim.Native.Nat.{ℕ, zero, pred, _*_, _/_}
+use mathlib.Core.Path.{_≡_}
 use mathlib.Core.Bool.{Bool, true, cond, _&&_, not}
 use mathlib.Core.List.{List, [], _∷_}
 use lib.ListN.{length, getD, take, drop}
@@ -23,6 +24,13 @@ makeRefusal g st = first ((not (goodGeometry g), 1) ∷ (not (goodLengths g st),
 unfoldable pub madeStore : Geometry → Store → Store
 madeStore g st = cond (eqb (makeRefusal g st) 0) (emptyStore g) st
 
+-- the number answered, and the tables afterwards
+pub record MakePromise (g : Geometry) (st : Store) (number : ℕ) (after : Store) : Type 0 where
+  pub number-is : number ≡ makeRefusal g st
+  pub sizes-are : after .sizes ≡ madeStore g st .sizes
+  pub words-are : after .words ≡ madeStore g st .words
+  pub mem-is : after .mem ≡ madeStore g st .mem
+
 -- ---- say whether a store is sound
 
 unfoldable pub storeRefusal : Geometry → Store → ℕ
@@ -35,6 +43,11 @@ usedCount g st = cond (eqb (storeRefusal g st) 0) (used (st .words)) 0
 
 unfoldable pub owedCount : Geometry → Store → ℕ
 owedCount g st = cond (eqb (storeRefusal g st) 0) (owed (st .words)) 0
+
+pub record CountPromise (g : Geometry) (st : Store) (number usedIs owedIs : ℕ) : Type 0 where
+  pub number-is : number ≡ storeRefusal g st
+  pub used-is : usedIs ≡ usedCount g st
+  pub owed-is : owedIs ≡ owedCount g st
 
 -- ---- show slot k of file f, by two calls; `page` is the zero page that the caller lends
 
@@ -55,3 +68,7 @@ slotView g st page f k = cond (eqb (slotRefusal g st page f k) 0) (shown (wordOf
 -- which of the two it is: a hole, also on a refusal
 unfoldable pub slotIsHole : Geometry → Store → List ℕ → ℕ → ℕ → Bool
 slotIsHole g st page f k = cond (eqb (slotRefusal g st page f k) 0) (isHole (wordOf g (st .words) f k)) true
+
+pub record KindPromise (g : Geometry) (st : Store) (page : List ℕ) (f k number : ℕ) (hole : Bool) : Type 0 where
+  pub number-is : number ≡ slotRefusal g st page f k
+  pub hole-is : hole ≡ slotIsHole g st page f k

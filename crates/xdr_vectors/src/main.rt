@@ -1,7 +1,6 @@
 // Runs XDR vectors through the readers and writers. A line of output says what was read and the place after it, or
 // 'fault' and its place. The expected output is worked out by hand from RFC 4506, whose section 7 has the file.
 ghost use mathlib.Core.Path.{_≡_};
-ghost use Prim.Native.Nat.{_≤_};
 ghost use lib.ListN.{length};
 use libc::STDOUT_FILENO;
 use xdr::Bytes;

@@ -16,10 +16,11 @@ use Rattle.store.specs.Calls.{first}
 use Rattle.store.specs.Blocks.{need}
 use Rattle.store.proofs.ArrayLaws.{write-content, allocate-content, deallocate-content, copy-content, clone-content, EditsArray, unedited, count-is, length-content}
 use Rattle.store.proofs.BoolLaws.{or-left, or-right}
+use Rattle.store.proofs.FirstLaws.{all-clear}
 use Rattle.compound.specs.Operation.{Op, GETFH, RESTOREFH, SAVEFH, PUTFH, READ, READ-PLUS, WRITE, ALLOCATE, DEALLOCATE, SEEK, COPY, CLONE}
 use Rattle.compound.specs.Run.{State, noFile, fileOf, errors, effect, perform, Event}
 use Rattle.compound.specs.Arrays.{arrayOp, arrayEdit}
-use Rattle.compound.proofs.StepLaws.{Ready, all-clear, file-ok, source-fits, clone-tests, performed, Performed, refused, nospc, done}
+use Rattle.compound.proofs.StepLaws.{Ready, file-ok, source-fits, clone-tests, performed, Performed, refused, nospc, done}
 
 module _ (g : Geometry) (pos : 0 < g .B) (x : State) (r : Ready g x) where
   kept : EditsArray g (x .store) (x .store) (fileOf (x .current)) (λ xs. xs)

@@ -24,12 +24,13 @@ use Rattle.store.proofs.FileLaws.{Sound}
 use Rattle.store.proofs.BoolLaws.{and-left, and-right}
 use Rattle.store.proofs.GeometryLaws.{good}
 use Rattle.store.proofs.SoundLaws.{sound-facts}
+use Rattle.store.proofs.FirstLaws.{all-clear}
 use Rattle.compound.specs.Status.{NOTSUPP, SEQUENCE-POS, OP-ILLEGAL, MINOR-VERS-MISMATCH, TOO-MANY-OPS}
 use Rattle.compound.specs.Operation.{Op, GETFH, RESTOREFH, SAVEFH, PUTFH, READ, READ-PLUS, WRITE, ALLOCATE, DEALLOCATE, SEEK, COPY, CLONE, opNumber, Item, op, bad, itemAt, items, numberItem, argsItem, unserved, argsOf, Header}
 use Rattle.compound.specs.Run.{State, Event, failed, errors, effect, perform, reached}
 use Rattle.compound.specs.Serve.{itemNumber, resultBytes, lastStatus, replyBytes, headerStatus, fresh, compound, refusal, refusals}
 use Rattle.compound.specs.Claim.{Call, answer, callEvents, history}
-use Rattle.compound.proofs.StepLaws.{Performed, refused, nospc, done, performed, all-clear}
+use Rattle.compound.proofs.StepLaws.{Performed, refused, nospc, done, performed}
 use Rattle.compound.proofs.ClaimProof.{op-inj, op≢bad}
 use Rattle.compound.proofs.AnswerLaws.{callRefusal, Accepted, replyStatus, headBytes, callReply, results-split, served-call, Refusal, refused-call, accepted-or-refused, InOrder, call-in-order, storeAfter, history-call}
 use Rattle.compound.proofs.ReplyLaws.{header-reads, reply-most}

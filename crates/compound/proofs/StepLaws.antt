@@ -3,7 +3,7 @@ use Prim.Native.Nat.{ℕ, zero, suc, _+_, _-_, _*_, _%_, _^_, _≤_, _<_, min}
 use mathlib.Core.Path.{_≡_, refl, sym, ap, _∙_}
 use mathlib.Core.Bool.{Bool, true, false, cond, _&&_, _||_, not, true≢false}
 use mathlib.Core.Option.{Option, none, some}
-use mathlib.Core.List.{List, [], _∷_, _++_}
+use mathlib.Core.List.{List, _++_}
 use mathlib.Core.Logic.{_≢_, _⊎_, inl, inr}
 use native.Mathlib.Nat.{lt-of-mul-lt-mul-right}
 use native.Mathlib.Decide.{ℕ-discrete, decLt}
@@ -27,36 +27,17 @@ use Rattle.store.specs.Read.{readCount, atEnd}
 use Rattle.store.specs.Calls.{first}
 use Rattle.store.proofs.ViewLaws.{length-tab, getD-tab}
 use Rattle.store.proofs.FileLaws.{Sound, Edited, still-sound, apart, slot-in, slot-bytes}
-use Rattle.store.proofs.BoolLaws.{and-false, and-left, and-right, and-cases, or-left, or-right, not-is}
+use Rattle.store.proofs.BoolLaws.{and-false, and-cases, or-left, or-right, not-is}
 use Rattle.store.proofs.WriteLaws.{inside, write-is, write-edited, write-r, write-bytes, write-room}
 use Rattle.store.proofs.AllocateLaws.{allocate-edited, allocate-r, allocate-reserved}
 use Rattle.store.proofs.CloneLaws.{clone-edited, clone-r}
 use Rattle.store.proofs.DeallocateLaws.{deallocate-edited, deallocate-r, deallocate-is, Whole, whole-is}
 use Rattle.store.proofs.CopyLaws.{copy-is-write}
+use Rattle.store.proofs.FirstLaws.{all-clear}
 use Rattle.compound.specs.Status.{NOSPC}
 use Rattle.compound.specs.Operation.{Op, GETFH, RESTOREFH, SAVEFH, PUTFH, READ, READ-PLUS, WRITE, ALLOCATE, DEALLOCATE, SEEK, COPY, CLONE, op}
 use Rattle.compound.specs.Run.{State, noFile, fileOf, errors, effect, body, readReply, Event, failed, perform}
 use Rattle.compound.specs.Claim.{target}
-
--- ---- errors that do not apply
-
-abbrev pub positive : List (Bool × ℕ) → Bool
-positive [] = true
-positive (t ∷ ts) = ltb 0 (t .1) && positive ts
-
-abbrev pub Clear : List (Bool × ℕ) → Type 0
-Clear [] = Unit {0}
-Clear (t ∷ ts) = (t .0 ≡ false) × Clear ts
-
-none-applies : (t : Bool) (e r : ℕ) → ltb 0 e ≡ true → cond t e r ≡ 0 → (t ≡ false) × (r ≡ 0)
-none-applies true e r p h = absurd (omega (arith, ltb-true 0 e p))
-none-applies false e r p h = (refl, h)
-
-pub all-clear : (ts : List (Bool × ℕ)) → positive ts ≡ true → first ts ≡ 0 → Clear ts
-all-clear [] p h = tt
-all-clear (t ∷ ts) p h =
-    let c = none-applies (t .0) (t .1) (first ts) (and-left (ltb 0 (t .1)) (positive ts) p) h in
-    (c .0, all-clear ts (and-right (ltb 0 (t .1)) (positive ts) p) (c .1))
 
 -- ---- a sound state: handles name files
 

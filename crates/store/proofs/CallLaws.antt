@@ -1,14 +1,18 @@
 -- The ways out of the store's own calls: one law for each refusal, and one for the answer.
-use Prim.Native.Nat.{ℕ, suc, _*_}
+use Prim.Native.Nat.{ℕ, suc, _+_, _*_, _/_}
 use mathlib.Core.Path.{_≡_, sym, ap, _∙_}
 use mathlib.Core.Bool.{Bool, true, false, _&&_}
 use native.Mathlib.Omega.{arith}
-use lib.ListN.{length, replicate}
-use lib.Dec.{eqb}
+use lib.ListN.{length, getD, replicate}
+use lib.Dec.{leb, eqb}
 use borrow.Author.Tests.{eqb-true, ne-eqb}
 use Rattle.store.specs.Geometry.{Geometry, goodGeometry}
 use Rattle.store.specs.Store.{Store, goodLengths, emptyStore}
-use Rattle.store.specs.Calls.{makeRefusal, madeStore, MakePromise}
+use Rattle.store.specs.Calls.{makeRefusal, madeStore, MakePromise, storeRefusal, usedCount, owedCount, CountPromise}
+use Rattle.store.specs.Tables.{Shaped}
+use Rattle.store.specs.Sound.{sound, soundFile}
+use Rattle.store.specs.Blocks.{used, owed}
+use Rattle.store.specs.Count.{allTo}
 use Rattle.store.proofs.BoolLaws.{and-left, and-right}
 
 -- tables of the geometry's lengths
@@ -59,3 +63,48 @@ module _ (g : Geometry) (st : Store) where
         words-are = rw (h, k) (b ∙ ap (λ (n : ℕ). replicate n 0) (l .slots));
         mem-is = rw (h, k) (c ∙ ap (λ (n : ℕ). replicate n 0) (l .bytes));
       }
+
+-- ---- soundness and counts
+
+module _ (g : Geometry) (st : Store) where
+  count-refused : (k : ℕ) → storeRefusal g st ≡ suc k → CountPromise g st (suc k) 0 0
+  unfolding usedCount owedCount
+  count-refused k e =
+      let z : eqb (suc k) 0 ≡ false = ne-eqb (suc k) 0 (λ (y : suc k ≡ 0). omega arith) in
+      record { number-is = sym e; used-is = rw (e, z); owed-is = rw (e, z) }
+
+  pub count-refused-1 : goodGeometry g ≡ false → CountPromise g st 1 0 0
+  unfolding storeRefusal
+  count-refused-1 h = count-refused 0 (rw h)
+
+  pub count-refused-2 : goodGeometry g ≡ true → goodLengths g st ≡ false → CountPromise g st 2 0 0
+  unfolding storeRefusal
+  count-refused-2 h k = count-refused 1 (rw (h, k))
+
+  pub count-unsound : Shaped g st → sound g st ≡ false → CountPromise g st 3 0 0
+  unfolding storeRefusal
+  count-unsound h k = count-refused 2 (rw (h .geometry, h .lengths, k))
+
+  pub count-sound : Shaped g st → sound g st ≡ true → CountPromise g st 0 (used (st .words)) (owed (st .words))
+  unfolding usedCount owedCount storeRefusal
+  count-sound h k =
+      record { number-is = rw (h .geometry, h .lengths, k); used-is = rw (h .geometry, h .lengths, k); owed-is = rw (h .geometry, h .lengths, k) }
+
+  -- the parts of `sound`
+  abbrev formed : Bool
+  formed = allTo (g .F * g .S) (λ i. leb (getD (st .words) i 0 / 2) (g .N))
+
+  abbrev files : Bool
+  files = allTo (g .F) (soundFile g st)
+
+  pub sound-words : formed ≡ false → sound g st ≡ false
+  unfolding sound
+  sound-words h = rw h
+
+  pub sound-files : formed ≡ true → files ≡ false → sound g st ≡ false
+  unfolding sound
+  sound-files h k = rw (h, k)
+
+  pub sound-room : formed ≡ true → files ≡ true → (t : Bool) → leb (used (st .words) + owed (st .words)) (g .N) ≡ t → sound g st ≡ t
+  unfolding sound
+  sound-room h k t e = rw (h, k) e

@@ -16,3 +16,6 @@ pub mod PieceLaws
 pub mod CopyLaws
 pub mod ArrayLaws
 pub mod CallLaws
+pub mod FirstLaws
+pub mod SlotLaws
+pub mod TallyLaws

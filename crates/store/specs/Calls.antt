@@ -51,19 +51,21 @@ pub record CountPromise (g : Geometry) (st : Store) (number usedIs owedIs : ℕ)
 
 -- ---- show slot k of file f, by two calls; `page` is the zero page that the caller lends
 
-unfoldable pub slotRefusal : Geometry → Store → List ℕ → ℕ → ℕ → ℕ
-slotRefusal g st page f k = first (
+abbrev pub slotRefusals : Geometry → Store → List ℕ → ℕ → ℕ → List (Bool × ℕ)
+slotRefusals g st page f k =
     (not (goodGeometry g), 1)
     ∷ (not (goodLengths g st && eqb (length page) (g .B)), 2)
     ∷ (not (sound g st && allTo (length page) (λ j. eqb (getD page j 0) 0)), 3)
-    ∷ (not (ltb f (g .F) && ltb k (g .S)), 8) ∷ [])
+    ∷ (not (ltb f (g .F) && ltb k (g .S)), 8) ∷ []
+
+unfoldable pub slotRefusal : Geometry → Store → List ℕ → ℕ → ℕ → ℕ
+slotRefusal g st page f k = first (slotRefusals g st page f k)
 
 -- the block's part of the memory, or for a hole the zero page; on a refusal the page's empty start
 unfoldable pub slotView : Geometry → Store → List ℕ → ℕ → ℕ → List ℕ
-slotView g st page f k = cond (eqb (slotRefusal g st page f k) 0) (shown (wordOf g (st .words) f k)) []
-  where
-    shown : ℕ → List ℕ
-    shown w = cond (isHole w) page (take (g .B) (drop (pred (w / 2) * g .B) (st .mem)))
+slotView g st page f k =
+    let w = wordOf g (st .words) f k in
+    cond (eqb (slotRefusal g st page f k) 0) (cond (isHole w) page (take (g .B) (drop (pred (w / 2) * g .B) (st .mem)))) []
 
 -- which of the two it is: a hole, also on a refusal
 unfoldable pub slotIsHole : Geometry → Store → List ℕ → ℕ → ℕ → Bool

@@ -3,6 +3,7 @@ pub mod Count
 pub mod Store
 pub mod Blocks
 pub mod Tables
+pub mod Tally
 pub mod Content
 pub mod Sound
 pub mod Edit
@@ -14,4 +15,5 @@ pub mod Deallocate
 pub mod Read
 pub mod Seek
 pub mod Calls
+pub mod Survey
 pub mod Arrays

@@ -1,6 +1,7 @@
 // The store: geometry, tables, soundness, counts, the edits and what is read. The rules stand in specs/.
 mod geometry;
 mod make;
+mod tally;
 
 pub use geometry::Geometry;
 pub use geometry::good_lengths;

@@ -1,0 +1,30 @@
+-- The table of holders, filled by one pass over the slot words, and what is read off it.
+use Prim.Native.Nat.{ℕ, zero, suc, pred, _+_, _/_, _≤_}
+use mathlib.Core.Path.{_≡_}
+use mathlib.Core.Bool.{Bool, _&&_, _||_}
+use mathlib.Core.List.{List, [], _∷_}
+use lib.ListN.{length, getD, set, replicate}
+use lib.Dec.{ltb}
+use Rattle.store.specs.Store.{isHole, isReserved}
+use Rattle.store.specs.Tables.{InPool}
+
+-- the counts with one more for block k - 1; a hole's k is 0
+unfoldable pub noted : ℕ → List ℕ → List ℕ
+noted zero counts = counts
+noted (suc b) counts = set counts b (getD counts b 0 + 1)
+
+-- what the pass starts from: the counts zero, the slots few enough to count, their blocks in the table
+pub record Untallied (ws counts : List ℕ) : Type 0 where
+  pub zeros : counts ≡ replicate (length counts) 0
+  pub few : length ws ≤ 65536
+  pub pool : InPool (length counts) ws
+
+-- a slot with word w owes a block, by the counts (`owes` of Blocks)
+abbrev pub owesBy : List ℕ → ℕ → Bool
+owesBy counts w = (isHole w || ltb 1 (getD counts (pred (w / 2)) 0)) && isReserved w
+
+-- the index of the first 0, or the length
+unfoldable pub firstZero : List ℕ → ℕ
+firstZero [] = 0
+firstZero (zero ∷ xs) = 0
+firstZero (suc x ∷ xs) = suc (firstZero xs)

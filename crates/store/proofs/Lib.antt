@@ -19,3 +19,4 @@ pub mod CallLaws
 pub mod FirstLaws
 pub mod SlotLaws
 pub mod TallyLaws
+pub mod WordLaws

@@ -62,7 +62,7 @@ unfolding noted
 noted-some zero cs h = absurd (h refl)
 noted-some (suc b) cs h = rw (sub-one (suc b))
 
-noted-at : (k : ℕ) (cs : List ℕ) (b : ℕ) → b < length cs → getD (noted k cs) b 0 ≡ getD cs b 0 + bit (eqb k (suc b))
+pub noted-at : (k : ℕ) (cs : List ℕ) (b : ℕ) → b < length cs → getD (noted k cs) b 0 ≡ getD cs b 0 + bit (eqb k (suc b))
 unfolding noted
 noted-at zero cs b h = rw (ne-eqb 0 (suc b) (λ (e : 0 ≡ suc b). omega arith)) (omega arith)
 noted-at (suc j) cs b h = go (eqb b j) refl

@@ -4,6 +4,7 @@ pub mod Store
 pub mod Blocks
 pub mod Tables
 pub mod Tally
+pub mod Plan
 pub mod Content
 pub mod Sound
 pub mod Edit

@@ -1,5 +1,5 @@
 -- The table of holders, filled by one pass over the slot words, and what is read off it.
-use Prim.Native.Nat.{ℕ, zero, suc, pred, _+_, _/_, _≤_}
+use Prim.Native.Nat.{ℕ, zero, suc, pred, _+_, _-_, _/_, _≤_}
 use mathlib.Core.Path.{_≡_}
 use mathlib.Core.Bool.{Bool, _&&_, _||_}
 use mathlib.Core.List.{List, [], _∷_}
@@ -12,6 +12,11 @@ use Rattle.store.specs.Tables.{InPool}
 unfoldable pub noted : ℕ → List ℕ → List ℕ
 noted zero counts = counts
 noted (suc b) counts = set counts b (getD counts b 0 + 1)
+
+-- the counts with one less for block k - 1; a hole's k is 0
+unfoldable pub forgot : ℕ → List ℕ → List ℕ
+forgot zero counts = counts
+forgot (suc b) counts = set counts b (getD counts b 0 - 1)
 
 -- what the pass starts from: the counts zero, the slots few enough to count, their blocks in the table
 pub record Untallied (ws counts : List ℕ) : Type 0 where

@@ -2,6 +2,7 @@
 mod geometry;
 mod make;
 mod tally;
+mod words;
 
 pub use geometry::Geometry;
 pub use geometry::good_lengths;

@@ -22,7 +22,7 @@ pub fn words_formed(words: &[u32], blocks: usize) -> bool
 }
 
 // One more holder of the block of word w; a hole has none.
-fn note(counts: &mut [u32], w: u32)
+pub fn note(counts: &mut [u32], w: u32)
     requires { ⌜ (w / 2 ≤ length (now counts)) × ((b : ℕ) → b < length (now counts) → getD (now counts) b 0 ≤ 65536) ⌝ }
     ensures { λ _. ⌜ now (counts .exit) ≡ noted (w / 2) (now (counts .entry)) ⌝ }
 {

@@ -1,11 +1,11 @@
 -- The ways out of the store's own calls: one law for each refusal, and one for the answer.
 use Prim.Native.Nat.{ℕ, suc, _+_, _*_, _/_}
 use mathlib.Core.Path.{_≡_, sym, ap, _∙_}
-use mathlib.Core.Bool.{Bool, true, false, _&&_}
+use mathlib.Core.Bool.{Bool, true, false}
 use native.Mathlib.Omega.{arith}
 use lib.ListN.{length, getD, replicate}
 use lib.Dec.{leb, eqb}
-use borrow.Author.Tests.{eqb-true, ne-eqb}
+use borrow.Author.Tests.{ne-eqb}
 use Rattle.store.specs.Geometry.{Geometry, goodGeometry}
 use Rattle.store.specs.Store.{Store, goodLengths, emptyStore}
 use Rattle.store.specs.Calls.{makeRefusal, madeStore, MakePromise, storeRefusal, usedCount, owedCount, CountPromise}
@@ -13,25 +13,7 @@ use Rattle.store.specs.Tables.{Shaped}
 use Rattle.store.specs.Sound.{sound, soundFile}
 use Rattle.store.specs.Blocks.{used, owed}
 use Rattle.store.specs.Count.{allTo}
-use Rattle.store.proofs.BoolLaws.{and-left, and-right}
-
--- tables of the geometry's lengths
-pub record Long (g : Geometry) (st : Store) : Type 0 where
-  pub files : length (st .sizes) ≡ g .F
-  pub slots : length (st .words) ≡ g .F * g .S
-  pub bytes : length (st .mem) ≡ g .N * g .B
-
-pub lengths-are : (g : Geometry) (st : Store) → goodLengths g st ≡ true → Long g st
-unfolding goodLengths
-lengths-are g st h =
-    let a : Bool = eqb (length (st .sizes)) (g .F) in
-    let b : Bool = eqb (length (st .words)) (g .F * g .S) in
-    let c : Bool = eqb (length (st .mem)) (g .N * g .B) in
-    record {
-      files = eqb-true (length (st .sizes)) (g .F) (and-left a b (and-left (a && b) c h));
-      slots = eqb-true (length (st .words)) (g .F * g .S) (and-right a b (and-left (a && b) c h));
-      bytes = eqb-true (length (st .mem)) (g .N * g .B) (and-right (a && b) c h);
-    }
+use Rattle.store.proofs.GeometryLaws.{lengths}
 
 -- ---- make an empty store
 
@@ -56,7 +38,7 @@ module _ (g : Geometry) (st : Store) where
       → MakePromise g st 0 after
   unfolding makeRefusal madeStore emptyStore
   made h k after a b c =
-      let l = lengths-are g st k in
+      let l = lengths g st k in
       record {
         number-is = rw (h, k);
         sizes-are = rw (h, k) (a ∙ ap (λ (n : ℕ). replicate n 0) (l .files));

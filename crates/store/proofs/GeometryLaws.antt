@@ -1,4 +1,4 @@
--- The numbers of a geometry inside the limits.
+-- The numbers of a geometry inside the limits, and the lengths of its tables.
 use Prim.Native.Nat.{ℕ, _*_, _^_, _≤_, _<_}
 use mathlib.Core.Path.{_≡_}
 use mathlib.Core.Bool.{Bool, true, _&&_, _||_}
@@ -6,8 +6,10 @@ use mathlib.Core.Logic.{_⊎_, inl, inr}
 use native.Mathlib.Nat.{mul-le-mul}
 use native.Mathlib.Omega.{arith}
 use borrow.Author.Tests.{ltb-true, leb-true, eqb-true}
+use lib.ListN.{length}
 use lib.Dec.{leb, ltb, eqb}
 use Rattle.store.specs.Geometry.{Geometry, goodBlockSize, goodGeometry}
+use Rattle.store.specs.Store.{Store, goodLengths}
 use Rattle.store.proofs.BoolLaws.{and-left, and-right, or-cases}
 
 pub record Good (g : Geometry) : Type 0 where
@@ -73,3 +75,20 @@ memory-most g h = mul-le-mul (h .blocks-most) (h .block-most)
 
 pub file-small : {g : Geometry} → Good g → g .S * g .B < 2 ^ 64
 file-small {g} h = omega (arith, file-most g h)
+
+pub record Lengths (g : Geometry) (st : Store) : Type 0 where
+  pub files : length (st .sizes) ≡ g .F
+  pub slots : length (st .words) ≡ g .F * g .S
+  pub bytes : length (st .mem) ≡ g .N * g .B
+
+pub lengths : (g : Geometry) (st : Store) → goodLengths g st ≡ true → Lengths g st
+unfolding goodLengths
+lengths g st h =
+    let a : Bool = eqb (length (st .sizes)) (g .F) in
+    let b : Bool = eqb (length (st .words)) (g .F * g .S) in
+    let c : Bool = eqb (length (st .mem)) (g .N * g .B) in
+    record {
+      files = eqb-true _ _ (and-left a b (and-left (a && b) c h));
+      slots = eqb-true _ _ (and-right a b (and-left (a && b) c h));
+      bytes = eqb-true _ _ (and-right (a && b) c h);
+    }

@@ -20,3 +20,5 @@ pub mod FirstLaws
 pub mod SlotLaws
 pub mod TallyLaws
 pub mod WordLaws
+pub mod FileTests
+pub mod SurveyLaws

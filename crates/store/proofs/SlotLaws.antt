@@ -1,9 +1,11 @@
 -- The ways out of the slot's two calls.
-use Prim.Native.Nat.{ℕ, pred, _*_, _/_, _≤_, _<_}
+use Prim.Native.Nat.{_+_, _-_, ℕ, _*_, _/_, _≤_, _<_}
 use mathlib.Core.Path.{_≡_, refl, sym, _∙_}
 use mathlib.Core.Bool.{Bool, true, false, cond, _&&_, not, true≢false}
 use mathlib.Core.List.{List, []}
 use mathlib.Core.Logic.{_≢_}
+use native.Mathlib.Nat.{add-sub-cancel-left}
+use native.Mathlib.Numerals.{sub-one}
 use native.Mathlib.Omega.{arith}
 use lib.ListN.{length, getD, take, drop}
 use lib.Dec.{ltb, eqb}
@@ -16,6 +18,9 @@ use Rattle.store.specs.Sound.{sound}
 use Rattle.store.specs.Calls.{storeRefusal, slotRefusals, slotRefusal, slotView, slotIsHole, KindPromise}
 use Rattle.store.proofs.BoolLaws.{and-left, and-right, not-is}
 use Rattle.store.proofs.FirstLaws.{all-clear}
+use Rattle.store.proofs.FileTests.{FileRoom, file-room}
+use Rattle.store.proofs.SoundLaws.{sound-facts}
+use Rattle.store.proofs.GeometryLaws.{good, block-pos}
 
 -- what a store's refusal number says
 pub data Verdict (g : Geometry) (st : Store) : ℕ → Type 0 where
@@ -146,6 +151,11 @@ module _ (g : Geometry) (st : Store) (page : List ℕ) (f k : ℕ) where
         slot = ltb-true k (g .S) (and-right (ltb f (g .F)) (ltb k (g .S)) eight);
       }
 
+  pub slot-room : SlotKnown → FileRoom g st f
+  slot-room h =
+      let s = sound-facts g (block-pos (good g (h .shaped .geometry))) st (h .shaped .lengths) (h .sound) in
+      file-room (record { tables = record { shaped = h .shaped; pool = s .pool }; file = h .file })
+
   -- ---- kind and view
 
   pub kind-refused : (n : ℕ) → n ≢ 0 → n ≡ slotRefusal g st page f k → KindPromise g st page f k n true
@@ -164,7 +174,8 @@ module _ (g : Geometry) (st : Store) (page : List ℕ) (f k : ℕ) where
   unfolding slotView
   view-hole e h = rw (e, h)
 
-  pub view-block : slotRefusal g st page f k ≡ 0 → wordOf g (st .words) f k / 2 ≢ 0
-      → slotView g st page f k ≡ take (g .B) (drop (pred (wordOf g (st .words) f k / 2) * g .B) (st .mem))
+  -- as the code takes it: from (b - 1) × B on, up to that plus B
+  pub view-block : slotRefusal g st page f k ≡ 0 → (b : ℕ) → b ≡ wordOf g (st .words) f k / 2 → (b ≡ 0 → ⊥)
+      → take ((b - 1) * g .B + g .B - (b - 1) * g .B) (drop ((b - 1) * g .B) (st .mem)) ≡ slotView g st page f k
   unfolding slotView
-  view-block e d = rw (e, ne-eqb (wordOf g (st .words) f k / 2) 0 d)
+  view-block e b is d = rw (e, ← is, ne-eqb b 0 d, add-sub-cancel-left ((b - 1) * g .B) (g .B), sub-one b)

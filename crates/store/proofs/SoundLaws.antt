@@ -7,7 +7,7 @@ use native.Mathlib.Nat.{le-refl, le-of-suc-le-suc, eq-or-lt-of-le, not-suc-le-ze
 use native.Mathlib.Decide.{decLt}
 use native.Mathlib.Omega.{arith}
 use borrow.Author.Tests.{leb-true, eqb-true, lt-ltb, le-ltb, le-leb, eq-eqb}
-use lib.ListN.{length, getD, List·getD-eq-default}
+use lib.ListN.{getD, List·getD-eq-default}
 use lib.Dec.{leb, ltb, eqb}
 use Rattle.store.specs.Count.{allTo}
 use Rattle.store.specs.Geometry.{Geometry}
@@ -15,6 +15,7 @@ use Rattle.store.specs.Store.{Store, sizeOf, wordOf, goodLengths}
 use Rattle.store.specs.Blocks.{used, owed}
 use Rattle.store.specs.Content.{byteAt}
 use Rattle.store.specs.Sound.{ceilDiv, soundFile, sound}
+use Rattle.store.proofs.GeometryLaws.{Lengths, lengths}
 use Rattle.store.proofs.FileLaws.{div-lt, ceil-le, le-ceil, Sound}
 use Rattle.store.proofs.BoolLaws.{and-left, and-right, and-both, or-inl, or-inr, or-second}
 
@@ -49,15 +50,9 @@ module _ (g : Geometry) (pos : 0 < g .B) (st : Store) where
   unfolding byteAt
   hole-byte f i e = rw e
 
-  module _ (lengths : goodLengths g st ≡ true) (snd : sound g st ≡ true) where
-    l₁ : Bool
-    l₁ = eqb (length (st .sizes)) (g .F)
-
-    l₂ : Bool
-    l₂ = eqb (length (st .words)) (g .F * g .S)
-
-    l₃ : Bool
-    l₃ = eqb (length (st .mem)) (g .N * g .B)
+  module _ (good : goodLengths g st ≡ true) (snd : sound g st ≡ true) where
+    long : Lengths g st
+    long = lengths g st good
 
     s₁ : Bool
     s₁ = allTo (g .F * g .S) (λ i. leb (getD (st .words) i 0 / 2) (g .N))
@@ -68,14 +63,10 @@ module _ (g : Geometry) (pos : 0 < g .B) (st : Store) where
     s₃ : Bool
     s₃ = leb (used (st .words) + owed (st .words)) (g .N)
 
-    slots : length (st .words) ≡ g .F * g .S
-    unfolding goodLengths l₁ l₂ l₃
-    slots = eqb-true _ _ (and-right l₁ l₂ (and-left (l₁ && l₂) l₃ lengths))
-
     pool-in : (p : ℕ) → Dec (p < g .F * g .S) → getD (st .words) p 0 / 2 ≤ g .N
     unfolding sound s₁ s₂ s₃
     pool-in p (yes l) = leb-true _ _ (allTo-at (g .F * g .S) _ (and-left s₁ s₂ (and-left (s₁ && s₂) s₃ snd)) p l)
-    pool-in p (no d) = rw (List·getD-eq-default (st .words) 0 {n = p} (omega (arith, slots, d))) (omega arith)
+    pool-in p (no d) = rw (List·getD-eq-default (st .words) 0 {n = p} (omega (arith, long .slots, d))) (omega arith)
 
     per-file : (f : ℕ) → f < g .F → fileTest₁ f && fileTest₂ f && fileTest₃ f ≡ true
     unfolding sound s₁ s₂ s₃
@@ -100,11 +91,11 @@ module _ (g : Geometry) (pos : 0 < g .B) (st : Store) where
             (le-ceil pos (sizeOf st f) (i / g .B) (le-div-iff-mul-le {k = g .B} {x = ceilDiv (sizeOf st f) (g .B)} {y = i} pos .1 (omega (arith, d)))))
 
     pub sound-facts : Sound g st
-    unfolding goodLengths sound l₁ l₂ l₃ s₁ s₂ s₃ fileTest₁
+    unfolding sound s₁ s₂ s₃ fileTest₁
     sound-facts = record {
-      files = eqb-true _ _ (and-left l₁ l₂ (and-left (l₁ && l₂) l₃ lengths));
-      slots = slots;
-      bytes = eqb-true _ _ (and-right (l₁ && l₂) l₃ lengths);
+      files = long .files;
+      slots = long .slots;
+      bytes = long .bytes;
       pool = λ p. pool-in p (decLt p (g .F * g .S));
       fits = λ f h. leb-true _ _ (and-left (fileTest₁ f) (fileTest₂ f) (and-left (fileTest₁ f && fileTest₂ f) (fileTest₃ f) (per-file f h)));
       beyond = beyond-in;

@@ -17,6 +17,16 @@ pub record Shaped (g : Geometry) (st : Store) : Type 0 where
 abbrev pub InPool : ℕ → List ℕ → Type 0
 InPool n ws = (p : ℕ) → getD ws p 0 / 2 ≤ n
 
+-- tables of a good geometry whose words name blocks of the pool
+pub record Pooled (g : Geometry) (st : Store) : Type 0 where
+  pub shaped : Shaped g st
+  pub pool : InPool (g .N) (st .words)
+
+-- and file f is one of theirs
+pub record FileKnown (g : Geometry) (st : Store) (f : ℕ) : Type 0 where
+  pub tables : Pooled g st
+  pub file : f < g .F
+
 -- the table of holders: for each block the number of slots that hold it
 pub record Tallied (ws counts : List ℕ) : Type 0 where
   pub each : (b : ℕ) → b < length counts → getD counts b 0 ≡ holders b ws

@@ -1,9 +1,17 @@
 // The store: geometry, tables, soundness, counts, the edits and what is read. The rules stand in specs/.
+mod files;
 mod geometry;
 mod make;
+mod survey;
 mod tally;
+mod view;
 mod words;
 
 pub use geometry::Geometry;
-pub use geometry::good_lengths;
 pub use make::make_empty;
+pub use survey::Counts;
+pub use survey::count_blocks;
+pub use survey::soundness;
+pub use view::Kind;
+pub use view::slot_kind;
+pub use view::slot_view;

@@ -28,7 +28,7 @@ pub record Grown (ws ws′ : List ℕ) : Type 0 where
   pub block : (p : ℕ) → getD ws′ p 0 / 2 ≡ getD ws p 0 / 2
   pub r : (p : ℕ) → getD ws p 0 % 2 ≡ 1 → getD ws′ p 0 % 2 ≡ 1
 
-reserve-local : (at : ℕ) → Local at (reserve at)
+pub reserve-local : (at : ℕ) → Local at (reserve at)
 unfolding reserve
 reserve-local at ws k p d = getD-set-other ws (at + k) p _ 0 d
 

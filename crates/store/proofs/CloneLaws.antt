@@ -23,7 +23,7 @@ use Rattle.store.proofs.ViewLaws.{Local, plan-before, plan-after}
 use Rattle.store.proofs.FileLaws.{div-lt, ceil-le, le-ceil, Sound, Edited, apart}
 use Rattle.store.proofs.AllocateLaws.{same-block}
 
-share-local : (from to : ℕ) → Local to (share from to)
+pub share-local : (from to : ℕ) → Local to (share from to)
 unfolding share
 share-local from to ws k p d = getD-set-other ws (to + k) p _ 0 d
 

@@ -33,7 +33,7 @@ pub record GaveBack (at : ℕ) (given : ℕ → Bool) (ws ws′ : List ℕ) : Ty
   pub slots : length ws′ ≡ length ws
   pub each-slot : (p : ℕ) → Given at given ws ws′ p
 
-giveBack-local : (at : ℕ) (given : ℕ → Bool) → Local at (giveBack at given)
+pub giveBack-local : (at : ℕ) (given : ℕ → Bool) → Local at (giveBack at given)
 unfolding giveBack
 giveBack-local at given ws k p d = go (given k)
   where

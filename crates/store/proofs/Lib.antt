@@ -22,3 +22,4 @@ pub mod TallyLaws
 pub mod WordLaws
 pub mod FileTests
 pub mod SurveyLaws
+pub mod RangeLaws

@@ -5,6 +5,7 @@ pub mod Blocks
 pub mod Tables
 pub mod Tally
 pub mod Plan
+pub mod Ranges
 pub mod Content
 pub mod Sound
 pub mod Edit

@@ -2,6 +2,7 @@
 mod files;
 mod geometry;
 mod make;
+mod ranges;
 mod survey;
 mod tally;
 mod view;

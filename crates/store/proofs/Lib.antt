@@ -23,3 +23,5 @@ pub mod WordLaws
 pub mod FileTests
 pub mod SurveyLaws
 pub mod RangeLaws
+pub mod OwnLaws
+pub mod StoreLaws

@@ -38,7 +38,7 @@ beq-false true false e = refl
 beq-false false true e = refl
 beq-false false false e = absurd (true≢false e)
 
-tab-zeros : (n i : ℕ) → tab (λ i. 0) i n ≡ replicate n 0
+pub tab-zeros : (n i : ℕ) → tab (λ i. 0) i n ≡ replicate n 0
 tab-zeros zero i = refl
 tab-zeros (suc n) i = ap (λ t. 0 ∷ t) (tab-zeros n (suc i))
 

@@ -1,7 +1,7 @@
 -- Laws on the table of holders: how one pass fills it, and that what is read off it is what the rules count.
 use Prim.Native.Nat.{ℕ, zero, suc, pred, _+_, _-_, _/_, _≤_, _<_}
 use mathlib.Core.Path.{_≡_, refl, sym, ap, _∙_}
-use mathlib.Core.Bool.{Bool, true, false, true≢false}
+use mathlib.Core.Bool.{Bool, true, false, _&&_, _||_, true≢false}
 use mathlib.Core.List.{List, [], _∷_}
 use mathlib.Core.Logic.{_≢_}
 use native.Mathlib.Nat.{le-of-suc-le-suc}
@@ -13,9 +13,10 @@ use lib.ListN.{length, getD, set, drop, drop-of-length-le}
 use lib.Seq.{drop-cons, getD-set-same, getD-set-other}
 use lib.Dec.{ltb, eqb}
 use Rattle.store.specs.Count.{bit, count, sumTo, countTo, allTo}
-use Rattle.store.specs.Blocks.{holds, holders, top, used, owes, owed, lowestFree}
+use Rattle.store.specs.Store.{isHole, isReserved}
+use Rattle.store.specs.Blocks.{isShared, holds, holders, top, used, owes, owed, lowestFree}
 use Rattle.store.specs.Tables.{InPool, Tallied}
-use Rattle.store.specs.Tally.{noted, owesBy, firstZero}
+use Rattle.store.specs.Tally.{noted, takesBy, owesBy, firstZero}
 use Rattle.store.proofs.CountLaws.{sumTo-ext, count-drop}
 use Rattle.store.proofs.NeedLaws.{lowestFree-free, scan-ends, used-to}
 use Rattle.store.proofs.SoundLaws.{allTo-at}
@@ -125,16 +126,16 @@ module _ (ws cs : List ℕ) (tallied : Tallied ws cs) (pool : InPool (length cs)
       ∙ sumTo-ext (length cs) _ _ (λ b h. ap (λ n. bit (ltb 0 n)) (tallied .each b h))
       ∙ sym (used-to (length cs) ws (pool-top (length cs) ws pool))
 
-  owes-same : (w : ℕ) → w / 2 ≤ length cs → owesBy cs w ≡ owes ws w
-  owes-same w h = go (w / 2) refl
+  pub takes-same : (w : ℕ) → w / 2 ≤ length cs → takesBy cs w ≡ (isHole w || isShared ws w)
+  takes-same w h = go (w / 2) refl
     where
-      go : (k : ℕ) → w / 2 ≡ k → owesBy cs w ≡ owes ws w
+      go : (k : ℕ) → w / 2 ≡ k → takesBy cs w ≡ (isHole w || isShared ws w)
       go zero e = rw e
       go (suc b) e = rw (e, tallied .each b (omega arith))
 
   pub tallied-owed : count (owesBy cs) ws ≡ owed ws
   unfolding owed
-  tallied-owed = count-ext (owesBy cs) (owes ws) ws (λ i. owes-same (getD ws i 0) (pool i))
+  tallied-owed = count-ext (owesBy cs) (owes ws) ws (λ i. ap (λ t. t && isReserved (getD ws i 0)) (takes-same (getD ws i 0) (pool i)))
 
   first-least : firstZero cs ≤ lowestFree ws
   first-least = go (decLt (lowestFree ws) (firstZero cs))
@@ -149,5 +150,5 @@ module _ (ws cs : List ℕ) (tallied : Tallied ws cs) (pool : InPool (length cs)
   tallied-free h = scan-ends ws (firstZero cs) first-least (sym (tallied .each (firstZero cs) h) ∙ first-zero cs h)
 
   -- no block of the table is free
-  pub tallied-full : firstZero cs ≡ length cs → length cs ≤ lowestFree ws
-  tallied-full e = omega (arith, first-least)
+  pub tallied-full : length cs ≤ firstZero cs → length cs ≤ lowestFree ws
+  tallied-full h = omega (arith, first-least)

@@ -46,19 +46,23 @@ getD-tab f (suc n) p (suc j) h = getD-tab f n (suc p) j (le-of-suc-le-suc h) ∙
 abbrev pub view : Geometry → List ℕ → List ℕ → ℕ → ℕ → ℕ
 view g ws m i j = slotByte g m (getD ws i 0) j
 
+-- a slot has B bytes, where its block lies in the memory
+pub slot-long : (g : Geometry) (m : List ℕ) (w : ℕ) → w / 2 * g .B ≤ length m → length (slotBytes g m w) ≡ g .B
+slot-long g m w h = go (w / 2) refl
+  where
+    go : (t : ℕ) → w / 2 ≡ t → length (slotBytes g m w) ≡ g .B
+    go zero e = rw (eq-eqb (w / 2) 0 e, length-replicate)
+    go (suc o) e =
+        rw (ne-eqb (w / 2) 0 (λ (q : w / 2 ≡ 0). omega arith)) (rw e
+        (length-take (g .B) (drop (o * g .B) m) ∙ rw (length-drop (o * g .B) m) (omega (arith, rw e at h))))
+
 module _ (g : Geometry) (m : List ℕ) (room : length m ≡ g .N * g .B) where
   -- a block of the pool lies in the memory
   pub in-memory : (b : ℕ) → suc b ≤ g .N → b * g .B + g .B ≤ length m
   in-memory b h = omega (arith, mul-le-mul-right (g .B) h, room)
 
   pub length-slotBytes : (w : ℕ) → w / 2 ≤ g .N → length (slotBytes g m w) ≡ g .B
-  length-slotBytes w h = go (w / 2) refl
-    where
-      go : (t : ℕ) → w / 2 ≡ t → length (slotBytes g m w) ≡ g .B
-      go zero e = rw (eq-eqb (w / 2) 0 e, length-replicate)
-      go (suc o) e =
-          rw (ne-eqb (w / 2) 0 (λ (q : w / 2 ≡ 0). omega arith)) (rw e
-          (length-take (g .B) (drop (o * g .B) m) ∙ rw (length-drop (o * g .B) m) (omega (arith, in-memory o (omega arith)))))
+  length-slotBytes w h = slot-long g m w (omega (arith, mul-le-mul-right (g .B) h, room))
 
   pub getD-slotBytes : (w j : ℕ) → j < g .B → getD (slotBytes g m w) j 0 ≡ slotByte g m w j
   getD-slotBytes w j h = go (isHole w)

@@ -9,6 +9,8 @@ pub mod Ranges
 pub mod Content
 pub mod Sound
 pub mod Edit
+pub mod Own
+pub mod Bytes
 pub mod Write
 pub mod Copy
 pub mod Clone

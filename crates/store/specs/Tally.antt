@@ -24,9 +24,13 @@ pub record Untallied (ws counts : List ℕ) : Type 0 where
   pub few : length ws ≤ 65536
   pub pool : InPool (length counts) ws
 
+-- a slot with word w is a hole or holds a shared block, by the counts
+abbrev pub takesBy : List ℕ → ℕ → Bool
+takesBy counts w = isHole w || ltb 1 (getD counts (pred (w / 2)) 0)
+
 -- a slot with word w owes a block, by the counts (`owes` of Blocks)
 abbrev pub owesBy : List ℕ → ℕ → Bool
-owesBy counts w = (isHole w || ltb 1 (getD counts (pred (w / 2)) 0)) && isReserved w
+owesBy counts w = takesBy counts w && isReserved w
 
 -- the index of the first 0, or the length
 unfoldable pub firstZero : List ℕ → ℕ

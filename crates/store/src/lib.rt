@@ -1,7 +1,9 @@
 // The store: geometry, tables, soundness, counts, the edits and what is read. The rules stand in specs/.
+mod bytes;
 mod files;
 mod geometry;
 mod make;
+mod plan;
 mod ranges;
 mod survey;
 mod tally;

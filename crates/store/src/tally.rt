@@ -5,7 +5,7 @@ ghost use lib.ListN.{length, getD};
 ghost use lib.Dec.{leb, ltb};
 ghost use Rattle.store.specs.Count.{allTo, bit, count};
 ghost use Rattle.store.specs.Tables.{InPool, Tallied};
-ghost use Rattle.store.specs.Tally.{noted, Untallied, owesBy, firstZero};
+ghost use Rattle.store.specs.Tally.{noted, Untallied, takesBy, owesBy, firstZero};
 
 // Whether every word names one of the blocks, or none.
 pub fn words_formed(words: &[u32], blocks: usize) -> bool
@@ -69,6 +69,18 @@ pub fn used_blocks(counts: &[u32]) -> usize
     n
 }
 
+// Whether a slot with word w is a hole or holds a shared block.
+pub fn takes_block(w: u32, counts: &[u32]) -> bool
+    requires { ⌜ w / 2 ≤ length (now counts) ⌝ }
+    ensures { λ r. ⌜ r ≡ takesBy (now (counts .entry)) w ⌝ }
+{
+    let k = (w / 2) as usize;
+    if k == 0 {
+        return true;
+    }
+    1 < counts[k - 1]
+}
+
 // 1 where a slot with word w owes a block, else 0.
 fn owes_block(w: u32, counts: &[u32]) -> usize
     requires { ⌜ w / 2 ≤ length (now counts) ⌝ }
@@ -77,11 +89,7 @@ fn owes_block(w: u32, counts: &[u32]) -> usize
     if w % 2 == 0 {
         return 0;
     }
-    let k = (w / 2) as usize;
-    if k == 0 {
-        return 1;
-    }
-    if 1 < counts[k - 1] {
+    if takes_block(w, counts) {
         return 1;
     }
     0

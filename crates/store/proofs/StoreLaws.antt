@@ -1,0 +1,240 @@
+-- For the code that stores an edit's bytes: what it does to a block, a slot's share of a region, and the loop over the slots.
+use Prim.Native.Nat.{ℕ, zero, suc, pred, _+_, _-_, _*_, _/_, _^_, _≤_, _<_, max, min}
+use mathlib.Core.Path.{_≡_, refl, sym, ap, _∙_}
+use mathlib.Core.Bool.{Bool}
+use mathlib.Core.List.{List, _++_}
+use mathlib.Core.Logic.{_≢_, inl, inr}
+use native.Mathlib.Nat.{add-zero, add-suc, add-sub-cancel-left, mul-le-mul-right, le-mul-of-pos-right}
+use native.Mathlib.Numerals.{add-one}
+use native.Mathlib.Decide.{decLe, decLt}
+use native.Mathlib.Omega.{arith}
+use borrow.Author.Tests.{eq-eqb, ne-eqb}
+use borrow.Rule.Slice.PartMut as P
+use lib.ListN.{length, getD, take, drop, replicate, length-take, length-drop}
+use lib.Seq.{length-take-le, take-at, drop-at, drop-drop, getD-take, getD-drop}
+use Rattle.xdr.specs.Bytes.{splice}
+use Rattle.xdr.proofs.BytesLaws.{length-splice, put-splice, put-zeroed}
+use Rattle.store.specs.Geometry.{Geometry}
+use Rattle.store.specs.Store.{Store}
+use Rattle.store.specs.Content.{tab}
+use Rattle.store.specs.Edit.{each, within, firstSlot, slotCount, slotBytes, overlay, storeSlot, storeAt}
+use Rattle.store.specs.Write.{planWrite, writeBytes}
+use Rattle.store.specs.Tables.{InPool}
+use Rattle.store.specs.Bytes.{Starts, Backed, Touched, AllTouched, storeSlots}
+use Rattle.store.proofs.GeometryLaws.{Good, block-pos, file-most}
+use Rattle.store.proofs.FileLaws.{slot-bytes}
+use Rattle.store.proofs.ViewLaws.{slot-long}
+use Rattle.store.proofs.WriteLaws.{outside, inside}
+use Rattle.store.proofs.PartLaws.{overlay-ext, overlay-splice, write-part}
+use Rattle.store.proofs.ReadLaws.{tab-zeros}
+
+-- ---- splices
+
+-- a part over itself
+splice-same : (m : List ℕ) (a n : ℕ) → a + n ≤ length m → splice m a (take n (drop a m)) ≡ m
+unfolding splice
+splice-same m a n h =
+    let e : length (take n (drop a m)) ≡ n = length-take n (drop a m) ∙ rw (length-drop a m) (omega arith) in
+    rw (e, ← drop-drop n a m) (P.put-same a n m)
+
+module _ (m bs : List ℕ) (a : ℕ) (h : a ≤ length m) where
+  rest : drop a (splice m a bs) ≡ bs ++ drop (a + length bs) m
+  unfolding splice
+  rest = drop-at (take a m) (bs ++ drop (a + length bs) m) a (length-take-le a m h)
+
+  -- what stands there afterwards
+  part-splice : (n : ℕ) → length bs ≡ n → take n (drop a (splice m a bs)) ≡ bs
+  part-splice n e = rw rest (take-at bs (drop (a + length bs) m) n e)
+
+  -- a second one of the same length in its place
+  splice-twice : (cs : List ℕ) → length cs ≡ length bs → splice (splice m a bs) a cs ≡ splice m a cs
+  unfolding splice
+  splice-twice cs e =
+      rw (take-at (take a m) (bs ++ drop (a + length bs) m) a (length-take-le a m h), e, ← drop-drop (length bs) a (splice m a bs), rest, drop-at bs (drop (a + length bs) m) (length bs) refl)
+
+-- ---- one block
+
+-- bytes that went through a page
+pub copied : (m page through ys : List ℕ) (from to : ℕ) → through ≡ take (from + length page - from) (drop from m) → ys ≡ through
+    → P.putMid to (to + length through - to) m ys ≡ splice m to (take (length page) (drop from m))
+copied m page through ys from to e f =
+    let g : through ≡ take (length page) (drop from m) = e ∙ rw (add-sub-cancel-left from (length page)) in
+    put-splice to (length through) m ys (take (length page) (drop from m)) (f ∙ g) (sym (ap length g))
+
+pub block-start : (g : Geometry) (w : ℕ) → 1 ≤ w / 2 → Starts g w ((w / 2 - 1) * g .B)
+block-start g w h =
+    let p : w / 2 - 1 ≡ pred (w / 2) = omega arith in
+    let s : w / 2 ≡ suc (w / 2 - 1) = omega arith in
+    record { start = ap (λ k. k * g .B) p; end = omega (arith, ap (λ k. k * g .B) s) }
+
+hole-bytes : (g : Geometry) (m : List ℕ) (w : ℕ) → w / 2 ≡ 0 → slotBytes g m w ≡ replicate (g .B) 0
+hole-bytes g m w e = rw (eq-eqb (w / 2) 0 e)
+
+block-bytes : (g : Geometry) (m : List ℕ) (w : ℕ) → w / 2 ≢ 0 → slotBytes g m w ≡ take (g .B) (drop (pred (w / 2) * g .B) m)
+block-bytes g m w d = rw (ne-eqb (w / 2) 0 d)
+
+-- the block of `new` with the old slot's bytes: kept, zeroed or copied
+module _ (g : Geometry) (m : List ℕ) (old new : ℕ) (h : Backed g (length m) old new) where
+  pub fresh-kept : old / 2 ≡ new / 2 → m ≡ splice m (pred (new / 2) * g .B) (slotBytes g m old)
+  fresh-kept e =
+      let s = block-start g new (h .some) in
+      let d : old / 2 ≢ 0 = λ q. omega (arith, h .some) in
+      sym (rw (block-bytes g m old d, e) (splice-same m (pred (new / 2) * g .B) (g .B) (omega (arith, h .new-inside, s .start, s .end))))
+
+  module _ (r : ℕ) (s : Starts g new r) where
+    pub fresh-zero : (ys : List ℕ) → old / 2 ≡ 0 → ys ≡ replicate (length (take (r + g .B - r) (drop r m))) 0
+        → P.putMid r (r + g .B - r) m ys ≡ splice m (pred (new / 2) * g .B) (slotBytes g m old)
+    fresh-zero ys e z = rw (hole-bytes g m old e, ← s .start) (put-zeroed r (g .B) m ys (omega (arith, h .new-inside, s .end)) z)
+
+    pub fresh-copy : (q : ℕ) (m′ : List ℕ) → Starts g old q → old / 2 ≢ 0 → m′ ≡ splice m r (take (g .B) (drop q m))
+        → m′ ≡ splice m (pred (new / 2) * g .B) (slotBytes g m old)
+    fresh-copy q m′ t d e = rw (block-bytes g m old d, ← s .start, ← t .start) e
+
+    -- bytes put over a part of it
+    pub part-stored : (lo : ℕ) (cs m′ ys : List ℕ) → lo + length cs ≤ g .B → m′ ≡ splice m (pred (new / 2) * g .B) (slotBytes g m old)
+        → ys ≡ splice (take (r + g .B - r) (drop r m′)) lo cs
+        → P.putMid r (r + g .B - r) m′ ys ≡ splice m (pred (new / 2) * g .B) (splice (slotBytes g m old) lo cs)
+    part-stored lo cs m′ ys l e f =
+        let bs = slotBytes g m old in
+        let n : length bs ≡ g .B = slot-long g m old (h .old-inside) in
+        let in-m : r ≤ length m = omega (arith, h .new-inside, s .end) in
+        let e′ : m′ ≡ splice m r bs = rw (← s .start) at e in
+        let part : take (r + g .B - r) (drop r m′) ≡ bs = rw (add-sub-cancel-left r (g .B), e′) (part-splice m bs r in-m (g .B) n) in
+        let size : length (splice bs lo cs) ≡ length bs = length-splice bs lo cs (rw n l) in
+        put-splice r (g .B) m′ ys (splice bs lo cs) (f ∙ ap (λ x. splice x lo cs) part) (size ∙ n)
+        ∙ rw e′ (splice-twice m bs r in-m (splice bs lo cs) size ∙ ap (λ x. splice m x (splice bs lo cs)) (s .start))
+
+-- ---- one slot's share of a region: the places from a up to b
+
+module _ (g : Geometry) (m : List ℕ) (old new k off end a b : ℕ) (h : Touched g (length m) old new k off end)
+    (ha : a ≡ max off (k * g .B)) (hb : b ≡ min end (k * g .B + g .B)) where
+  share : (byte : ℕ → ℕ)
+      → splice m (pred (new / 2) * g .B) (splice (slotBytes g m old) (a - k * g .B) (tab byte a (b - a))) ≡ storeSlot g (within off end) byte old new m k
+  unfolding storeSlot
+  share byte = ap (splice m (pred (new / 2) * g .B)) (sym whole)
+    where
+      p : ℕ
+      p = k * g .B
+
+      bs : List ℕ
+      bs = slotBytes g m old
+
+      long : length bs ≡ g .B
+      long = slot-long g m old (h .backed .old-inside)
+
+      from : p + (a - p) ≡ a
+      from = omega arith
+
+      to : a + (b - a) ≡ b
+      to = omega (arith, h .ordered, h .after, h .before)
+
+      same : (i : ℕ) → p ≤ i → i < p + length bs → Dec (off ≤ i) → Dec (i < end) → within off end i ≡ within a b i
+      same i l u (yes q) (yes v) = inside off end i q v ∙ sym (inside a b i (omega arith) (omega (arith, long)))
+      same i l u (no n) v = outside off end i (inl (omega (arith, n))) ∙ sym (outside a b i (inl (omega (arith, n))))
+      same i l u (yes q) (no n) = outside off end i (inr (omega (arith, n))) ∙ sym (outside a b i (inr (omega (arith, n))))
+
+      whole : overlay (within off end) byte p bs ≡ splice bs (a - p) (tab byte a (b - a))
+      whole =
+          overlay-ext (within off end) (within a b) byte bs p (λ i l u. same i l u (decLe off i) (decLt i end))
+          ∙ rw (from, to) at (overlay-splice byte bs p (a - p) (b - a) (omega (arith, long, h .ordered, h .after, h .before)))
+
+  pub zero-share : splice m (pred (new / 2) * g .B) (splice (slotBytes g m old) (a - k * g .B) (replicate (b - a) 0)) ≡ storeSlot g (within off end) (λ i. 0) old new m k
+  zero-share = rw (← tab-zeros (b - a) a) (share (λ i. 0))
+
+pub write-share : (g : Geometry) (m d : List ℕ) (old new k off a b : ℕ) → Touched g (length m) old new k off (off + length d)
+    → a ≡ max off (k * g .B) → b ≡ min (off + length d) (k * g .B + g .B)
+    → splice m (pred (new / 2) * g .B) (splice (slotBytes g m old) (a - k * g .B) (take (b - off - (a - off)) (drop (a - off) d)))
+    ≡ storeSlot g (within off (off + length d)) (λ p. getD d (p - off) 0) old new m k
+write-share g m d old new k off a b h ha hb =
+    let n : b - off - (a - off) ≡ b - a = omega arith in
+    rw (n, ← write-part d off a (b - a) (omega arith) (omega (arith, h .after, h .before)))
+    (share g m old new k off (off + length d) a b h ha hb (λ p. getD d (p - off) 0))
+
+-- ---- the slots in order
+
+-- the code's number of a slot fits
+pub slot-number : {g : Geometry} {len old new k off end : ℕ} → Touched g len old new k off end → k < 2 ^ 64
+slot-number {g} {len} {old} {new} {k} {off} {end} h =
+    let pos : 0 < g .B = omega (arith, h .backed .block) in
+    omega (arith, le-mul-of-pos-right k pos, h .before, h .small)
+
+-- the slots of a region, with words that name blocks of the pool
+pub all-touched : (g : Geometry) (len : ℕ) (olds news : List ℕ) (off end : ℕ) → Good g → g .N * g .B ≤ len → off < end → end ≤ g .S * g .B
+    → length olds ≡ slotCount g off end → length news ≡ length olds → InPool (g .N) olds → InPool (g .N) news
+    → ((j : ℕ) → j < length news → 1 ≤ getD news j 0 / 2) → AllTouched g len olds news (firstSlot g off) off end
+all-touched g len olds news off end good room some fits count same op np held = record {
+  same = same;
+  slot = λ j h.
+      let at = slot-bytes g (block-pos good) off end some fits (firstSlot g off + j) (omega arith) (omega (arith, count)) in
+      record {
+        backed = record {
+          block = good .block;
+          block-most = good .block-most;
+          some = held j (omega (arith, same));
+          new-inside = omega (arith, mul-le-mul-right (g .B) (np j), room);
+          old-inside = omega (arith, mul-le-mul-right (g .B) (op j), room);
+        };
+        ordered = omega arith;
+        after = at .0;
+        before = at .1;
+        small = omega (arith, file-most g good, good .block-most);
+      };
+}
+
+module _ (g : Geometry) (region : ℕ → Bool) (byte : ℕ → ℕ) (first : ℕ) (olds news m : List ℕ) (i n : ℕ) where
+  -- after one slot, what is left of the run
+  pub slots-on : (m′ : List ℕ) → i < n → m′ ≡ storeSlot g region byte (getD olds i 0) (getD news i 0) m (first + i)
+      → storeSlots g region byte first olds news m′ (i + 1) (n - (i + 1)) ≡ storeSlots g region byte first olds news m i (n - i)
+  unfolding storeSlots
+  slots-on m′ h e =
+      let s : n - i ≡ suc (n - (i + 1)) = omega arith in
+      rw (s, add-one i, e)
+
+  pub slots-end : n ≤ i → storeSlots g region byte first olds news m i (n - i) ≡ m
+  unfolding storeSlots
+  slots-end h =
+      let z : n - i ≡ 0 = omega arith in
+      rw z
+
+-- the same steps, counted from another slot on
+each-from : (step step′ : List ℕ → ℕ → List ℕ) (k n i : ℕ) (m : List ℕ) → ((x : List ℕ) (j : ℕ) → j < i + n → step x (k + j) ≡ step′ x j)
+    → each step m (k + i) n ≡ each step′ m i n
+each-from step step′ k zero i m h = refl
+each-from step step′ k (suc n) i m h =
+    rw (h m i (omega arith), ← add-suc k i) (each-from step step′ k n (suc i) (step′ m i) (λ x j l. h x j (omega arith)))
+
+-- the bytes of a WRITE, from the words of its slots alone
+pub write-bytes-is : (g : Geometry) (st : Store) (f off end : ℕ) (byte : ℕ → ℕ)
+    → writeBytes g st f off end byte
+    ≡ storeSlots g (within off end) byte (firstSlot g off)
+    (take (slotCount g off end) (drop (f * g .S + firstSlot g off) (st .words)))
+    (take (slotCount g off end) (drop (f * g .S + firstSlot g off) (planWrite g (st .words) f off end)))
+    (st .mem) 0 (slotCount g off end)
+unfolding writeBytes storeSlots storeAt
+write-bytes-is g st f off end byte =
+    rw (add-zero k) at (each-from (storeAt g at (within off end) byte ws ws′) (λ x j. storeSlot g (within off end) byte (getD (cut ws) j 0) (getD (cut ws′) j 0) x (k + j))
+    k n 0 (st .mem) (λ x j l. rw (word ws j (omega arith), word ws′ j (omega arith))))
+  where
+    k : ℕ
+    k = firstSlot g off
+
+    n : ℕ
+    n = slotCount g off end
+
+    at : ℕ
+    at = f * g .S
+
+    ws : List ℕ
+    ws = st .words
+
+    ws′ : List ℕ
+    ws′ = planWrite g (st .words) f off end
+
+    cut : List ℕ → List ℕ
+    cut l = take n (drop (at + k) l)
+
+    word : (l : List ℕ) (j : ℕ) → j < n → getD l (at + (k + j)) 0 ≡ getD (cut l) j 0
+    word l j h = sym (getD-take n (drop (at + k) l) j 0 h ∙ getD-drop (at + k) l j 0 ∙ ap (λ i. getD l i 0) place)
+      where
+        place : at + k + j ≡ at + (k + j)
+        place = omega arith

@@ -1,0 +1,38 @@
+-- Storing an edit's bytes, slot by slot. Contracts cite these.
+use Prim.Native.Nat.{ℕ, pred, _+_, _*_, _/_, _^_, _≤_, _<_}
+use mathlib.Core.Path.{_≡_}
+use mathlib.Core.Bool.{Bool}
+use mathlib.Core.List.{List}
+use lib.ListN.{length, getD}
+use Rattle.store.specs.Geometry.{Geometry}
+use Rattle.store.specs.Edit.{each, storeSlot}
+
+-- the block of word w starts at r
+pub record Starts (g : Geometry) (w r : ℕ) : Type 0 where
+  pub start : r ≡ pred (w / 2) * g .B
+  pub end : r + g .B ≡ w / 2 * g .B
+
+-- A slot's word goes from `old` to `new`: `new` names a block, and the blocks of both lie in the len bytes of block memory.
+pub record Backed (g : Geometry) (len old new : ℕ) : Type 0 where
+  pub block : 512 ≤ g .B
+  pub block-most : g .B ≤ 4096
+  pub some : 1 ≤ new / 2
+  pub new-inside : new / 2 * g .B ≤ len
+  pub old-inside : old / 2 * g .B ≤ len
+
+-- Such a slot, with number k, is touched by the region from off up to end, whose places fit the code's numbers.
+pub record Touched (g : Geometry) (len old new k off end : ℕ) : Type 0 where
+  pub backed : Backed g len old new
+  pub ordered : off ≤ end
+  pub after : off < k * g .B + g .B
+  pub before : k * g .B < end
+  pub small : end + g .B < 2 ^ 64
+
+-- The slots from `first` on: their words before and after, each slot touched.
+pub record AllTouched (g : Geometry) (len : ℕ) (olds news : List ℕ) (first off end : ℕ) : Type 0 where
+  pub same : length news ≡ length olds
+  pub slot : (j : ℕ) → j < length olds → Touched g len (getD olds j 0) (getD news j 0) (first + j) off end
+
+-- n of those slots stored, from the i-th on, in rising order
+unfoldable pub storeSlots : Geometry → (ℕ → Bool) → (ℕ → ℕ) → ℕ → List ℕ → List ℕ → List ℕ → ℕ → ℕ → List ℕ
+storeSlots g region new first olds news m i n = each (λ x j. storeSlot g region new (getD olds j 0) (getD news j 0) x (first + j)) m i n

@@ -1,0 +1,108 @@
+// Plans in place: slots get unshared blocks one by one, the plan is judged against the pool, and one that does not fit is undone.
+ghost use mathlib.Core.Path.{_≡_};
+ghost use Prim.Native.Nat.{suc, _+_, _%_, _<_, _≤_};
+ghost use lib.ListN.{length};
+ghost use Rattle.store.specs.Store.{word};
+ghost use Rattle.store.specs.Tables.{InPool};
+ghost use Rattle.store.specs.Plan.{Counted, fitsPool};
+ghost use Rattle.store.specs.Own.{Undone, SlotOwned, RangeOwned, WritePlanned};
+use crate::tally::lowest_free;
+use crate::tally::owed_slots;
+use crate::tally::takes_block;
+use crate::tally::used_blocks;
+use crate::words::set_word;
+
+// Whether used and owed blocks fit the pool.
+pub fn judge(words: &[u32], counts: &[u32]) -> bool
+    requires { ⌜ Counted (now words) (now counts) ⌝ }
+    ensures { λ r. ⌜ r ≡ fitsPool (length (now (counts .entry))) (now (words .entry)) ⌝ }
+{
+    used_blocks(counts) + owed_slots(words, counts) <= counts.len()
+}
+
+pub fn save_words(old: &mut [u32], words: &[u32])
+    requires { ⌜ length (now old) ≡ length (now words) ⌝ }
+    ensures { λ _. ⌜ now (old .exit) ≡ now (words .entry) ⌝ }
+{
+    let mut i = 0;
+    while i < words.len() {
+        old[i] = words[i];
+        i += 1;
+    }
+}
+
+// Stores the words of old from slot i on.
+pub fn undo(words: &mut [u32], counts: &mut [u32], i: usize, old: &[u32])
+    requires { ⌜ Counted (now words) (now counts) × ((i + length (now old) ≤ length (now words)) × InPool (length (now counts)) (now old)) ⌝ }
+    ensures { λ _. ⌜ Undone (now (words .entry)) i (now (old .entry)) (now (words .exit)) (now (counts .exit)) ⌝ }
+{
+    let mut k = 0;
+    while k < old.len() {
+        set_word(words, counts, i + k, old[k]);
+        k += 1;
+    }
+}
+
+// The word of a slot that takes block b in place of what word w says, and keeps its r.
+fn taken_word(b: usize, w: u32) -> u32
+    requires { ⌜ b ≤ 65536 ⌝ }
+    ensures { λ r. ⌜ r ≡ word (suc b) (w % 2) ⌝ }
+{
+    2 * (b as u32 + 1) + w % 2
+}
+
+// Gives slot i an unshared block: the one it has, or the lowest free one. Answers false, and changes nothing, where there is none.
+pub fn own_slot(words: &mut [u32], counts: &mut [u32], i: usize) -> bool
+    requires { ⌜ Counted (now words) (now counts) × (i < length (now words)) ⌝ }
+    ensures { λ r. ⌜ SlotOwned (now (words .entry)) (now (counts .entry)) i r (now (words .exit)) (now (counts .exit)) ⌝ }
+{
+    let w = words[i];
+    if !takes_block(w, counts) {
+        return true;
+    }
+    let b = lowest_free(counts);
+    if counts.len() <= b {
+        return false;
+    }
+    set_word(words, counts, i, taken_word(b, w));
+    true
+}
+
+// Gives the n slots from i on unshared blocks, up to the first that finds none. Answers how many have one.
+pub fn own_range(words: &mut [u32], counts: &mut [u32], i: usize, n: usize) -> usize
+    requires { ⌜ Counted (now words) (now counts) × (i + n ≤ length (now words)) ⌝ }
+    ensures { λ r. ⌜ RangeOwned (now (words .entry)) i n r (now (words .exit)) (now (counts .exit)) ⌝ }
+{
+    let mut k = 0;
+    while k < n {
+        if !own_slot(words, counts, i + k) {
+            return k;
+        }
+        k += 1;
+    }
+    k
+}
+
+// Plans a WRITE into the n slots from i on and saves their words in old. Where the plan does not fit the pool, the words go back.
+pub fn plan_write(
+    words: &mut [u32],
+    counts: &mut [u32],
+    i: usize,
+    n: usize,
+    old: &mut [u32],
+) -> bool
+    requires { ⌜ Counted (now words) (now counts) × ((i + n ≤ length (now words)) × (length (now old) ≡ n)) ⌝ }
+    ensures { λ r. ⌜ WritePlanned (now (words .entry)) i n r (now (words .exit)) (now (counts .exit)) (now (old .exit)) ⌝ }
+{
+    let end = i + n;
+    save_words(old, &words[i..end]);
+    if own_range(words, counts, i, n) < n {
+        undo(words, counts, i, old);
+        return false;
+    }
+    if !judge(words, counts) {
+        undo(words, counts, i, old);
+        return false;
+    }
+    true
+}

@@ -20,4 +20,5 @@ pub mod Read
 pub mod Seek
 pub mod Calls
 pub mod Survey
+pub mod Edits
 pub mod Arrays

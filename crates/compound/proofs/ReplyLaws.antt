@@ -8,7 +8,7 @@ use mathlib.Core.Logic.{_≢_}
 use native.Mathlib.Nat.{le-refl, le-trans, le-div-iff-mul-le}
 use native.Mathlib.Decide.{decLt}
 use native.Mathlib.Omega.{arith}
-use borrow.Author.Tests.{ltb-false, lt-ltb, le-ltb}
+use borrow.Author.Tests.{ltb-false, lt-ltb}
 use lib.ListN.{length, replicate, length-append, List·getD-eq-default}
 use lib.Dec.{ltb, eqb}
 use Rattle.xdr.specs.Encode.{u32, opaque, padBytes, concatMap}
@@ -19,12 +19,12 @@ use Rattle.xdr.proofs.Bounds.{Reads, opaque-bounded, then-reads}
 use Rattle.store.specs.Geometry.{Geometry}
 use Rattle.store.specs.Store.{Store, sizeOf}
 use Rattle.store.specs.Content.{byteAt, bytesFrom}
-use Rattle.store.specs.Read.{Piece, join, pieces, granted, readCount, readPieces}
+use Rattle.store.specs.Read.{Piece, join, pieces, granted, readCount, readPieces, holePiece, dataPiece, pieceBytes}
 use Rattle.store.proofs.FileLaws.{div-le, div-ge, Sound}
 use Rattle.store.proofs.ViewLaws.{length-tab}
-use Rattle.store.proofs.ReadLaws.{laid, read-plus-laid}
+use Rattle.store.proofs.ReadLaws.{laid, pieces-none, read-plus-laid}
 use Rattle.compound.specs.Operation.{Op, GETFH, RESTOREFH, SAVEFH, PUTFH, READ, READ-PLUS, WRITE, ALLOCATE, DEALLOCATE, SEEK, COPY, CLONE, Item, op, bad, items, itemAt, Header, header, headerLayout}
-use Rattle.compound.specs.Run.{State, fileOf, Event, pieceBytes, readReply, readPlusReply, seekReply, body, effect, perform, reached, holePiece, dataPiece}
+use Rattle.compound.specs.Run.{State, fileOf, Event, readReply, readPlusReply, seekReply, body, effect, perform, reached}
 use Rattle.compound.specs.Serve.{resultBytes, replyBytes, headerStatus, compound, fresh}
 use Rattle.compound.proofs.StepLaws.{Ready, effect-ready, Performed, refused, nospc, done, performed}
 
@@ -49,11 +49,6 @@ module _ (g : Geometry) (pos : 0 < g .B) (st : Store) (f : ℕ) where
   div-mono : (i j : ℕ) → i ≤ j → i / g .B ≤ j / g .B
   div-mono i j l = div-le pos i (j / g .B) (omega (arith, div-ge pos j (j / g .B) (le-refl _)))
 
-  none-past : (end k i : ℕ) → end ≤ i → pieces g st f end k i ≡ []
-  unfolding pieces
-  none-past end zero i h = refl
-  none-past end (suc k) i h = rw (le-ltb i end h, pieces)
-
   -- as many pieces as slots at most
   pieces-few : (end k i : ℕ) → i < end → length (pieces g st f end k i) + i / g .B ≤ (end - 1) / g .B + 1
   unfolding pieces
@@ -71,7 +66,7 @@ module _ (g : Geometry) (pos : 0 < g .B) (st : Store) (f : ℕ) where
 
       go : (next < end → length rest + next / g .B ≤ (end - 1) / g .B + 1) → Dec (next < end) → suc (length rest) + i / g .B ≤ (end - 1) / g .B + 1
       go ih (yes l) = omega (arith, ih l, le-div-iff-mul-le {k = g .B} {x = i / g .B + 1} {y = next} pos .1 (omega arith))
-      go ih (no d) = omega (arith, ap length (none-past end k next (omega (arith, d))), div-mono i (end - 1) (omega arith))
+      go ih (no d) = omega (arith, ap length (pieces-none g st f end k next (omega (arith, d))), div-mono i (end - 1) (omega arith))
 
   piece-most : (p : Piece) → length (pieceBytes g st f p) ≤ 23 + length (laid g st f p)
   piece-most p = go (p .hole)
@@ -108,7 +103,7 @@ module _ (g : Geometry) (pos : 0 < g .B) (st : Store) (f : ℕ) where
         where
           go : Dec (off < end) → length ps ≤ 5
           go (yes l) = omega (arith, pieces-few end (suc (g .S)) off l, div-le pos (end - 1) (off / g .B + 4) (omega (arith, div-ge pos off (off / g .B) (le-refl _))))
-          go (no d) = omega (arith, ap length (none-past end (suc (g .S)) off (omega (arith, d))))
+          go (no d) = omega (arith, ap length (pieces-none g st f end (suc (g .S)) off (omega (arith, d))))
 
 module _ (g : Geometry) (wide : 512 ≤ g .B) (v : List ℕ) (hv : length v ≡ 8) where
   any-file : (st : Store) → Sound g st → (f : ℕ) → sizeOf st f ≤ g .S * g .B

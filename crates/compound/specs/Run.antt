@@ -12,7 +12,7 @@ use Rattle.store.specs.Geometry.{Geometry}
 use Rattle.store.specs.Store.{Store, sizeOf}
 use Rattle.store.specs.Blocks.{used, owed, need}
 use Rattle.store.specs.Content.{bytesFrom}
-use Rattle.store.specs.Read.{Piece, readCount, atEnd, readPieces}
+use Rattle.store.specs.Read.{readCount, atEnd, readPieces, pieceBytes}
 use Rattle.store.specs.Write.{editWrite}
 use Rattle.store.specs.Allocate.{editAllocate}
 use Rattle.store.specs.Deallocate.{editDeallocate}
@@ -120,13 +120,6 @@ effect g x (CLONE i j s o n) =
 abbrev pub readResult : Layout (Bool × List ℕ)
 readResult = boolean then opaqueData anyLength
 
--- content type 0 (data): offset, data; content type 1 (hole): offset, length
-abbrev pub dataPiece : Layout (ℕ × (ℕ × List ℕ))
-dataPiece = uint then hyper then opaqueData anyLength
-
-abbrev pub holePiece : Layout (ℕ × (ℕ × ℕ))
-holePiece = uint then hyper then hyper
-
 -- eof, the number of pieces; they follow
 abbrev pub readPlusResult : Layout (Bool × ℕ)
 readPlusResult = boolean then uint
@@ -144,9 +137,6 @@ abbrev pub copyResult : Layout (ℕ × (ℕ × (ℕ × (List ℕ × (Bool × Boo
 copyResult = uint then hyper then uint then bytes 8 then boolean then boolean
 
 -- ---- the body of the reply
-
-abbrev pub pieceBytes : Geometry → Store → ℕ → Piece → List ℕ
-pieceBytes g st f p = cond (p .hole) (holePiece .write (1, (p .start, p .size))) (dataPiece .write (0, (p .start, bytesFrom g st f (p .start) (p .size))))
 
 unfoldable pub readReply : Geometry → Store → ℕ → ℕ → ℕ → List ℕ
 readReply g st f off n = readResult .write (atEnd st f off n, bytesFrom g st f off (readCount st f off n))

@@ -25,3 +25,5 @@ pub mod SurveyLaws
 pub mod RangeLaws
 pub mod OwnLaws
 pub mod StoreLaws
+pub mod PlaceLaws
+pub mod ScanLaws

@@ -98,9 +98,9 @@ module _ (g : Geometry) (pos : 0 < g .B) (st : Store) (f end : ℕ) where
   -- the places from i to the end of its slot, or to `end`
   slot-piece : (i : ℕ) → i < end → PieceRight (record { hole = holeAt g st f i; start = i; size = min end ((i / g .B + 1) * g .B) - i })
   slot-piece i l = record {
-    some-byte = omega (arith, slot-end g pos st f i);
-    inside = omega (arith, slot-end g pos st f i);
-    kind = λ j a b. same-kind g pos st f i j a (omega (arith, slot-end g pos st f i));
+    some-byte = omega (arith, slot-end pos i);
+    inside = omega (arith, slot-end pos i);
+    kind = λ j a b. same-kind g pos st f i j a (omega (arith, slot-end pos i));
   }
 
   pieces-from : (k i : ℕ) → PiecesFrom i (pieces g st f end k i)
@@ -118,7 +118,7 @@ module _ (g : Geometry) (pos : 0 < g .B) (st : Store) (f end : ℕ) where
       go false e r = record { each = λ p m. absurd (List·Memᴰ·not-nil m); starts = tt; alternate = tt }
       go true e r =
           let l : i < end = ltb-true i end e in
-          let ends : next ≡ i + (next - i) = omega (arith, slot-end g pos st f i) in
+          let ends : next ≡ i + (next - i) = omega (arith, slot-end pos i) in
           join-from _ (slot-piece i l) (pieces g st f end k next) (subst (λ j. PiecesFrom j (pieces g st f end k next)) ends r)
 
 -- for any file that fits its slots, any place and any count

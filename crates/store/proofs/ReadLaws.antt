@@ -7,7 +7,7 @@ use mathlib.Core.Logic.{_≢_, _⊎_, inl, inr}
 use native.Mathlib.Nat.{le-refl, le-trans, add-zero, zero-add, add-suc, suc-add, mul-le-mul-right, div-add-mod', le-div-iff-mul-le}
 use native.Mathlib.Decide.{decLe, decLt}
 use native.Mathlib.Omega.{arith}
-use borrow.Author.Tests.{ltb-true, ltb-false}
+use borrow.Author.Tests.{ltb-true, ltb-false, le-ltb}
 use lib.ListN.{replicate, replicate-append-replicate}
 use lib.Dec.{ltb}
 use Rattle.xdr.specs.Encode.{concatMap}
@@ -42,9 +42,53 @@ pub tab-zeros : (n i : ℕ) → tab (λ i. 0) i n ≡ replicate n 0
 tab-zeros zero i = refl
 tab-zeros (suc n) i = ap (λ t. 0 ∷ t) (tab-zeros n (suc i))
 
+-- ---- slots of b bytes: the slot of place i ends at (i / b + 1) * b
+
+-- k more slots reach the end
+abbrev pub Reaches : ℕ → ℕ → ℕ → ℕ → Type 0
+Reaches b end k i = (end ≤ i) ⊎ (end ≤ (i / b + k) * b)
+
+pub reached : (b end i : ℕ) → Reaches b end zero i → end ≤ i
+reached b end i (inl h) = h
+reached b end i (inr h) = omega (arith, div-add-mod' i b)
+
+-- s + 1 slots reach every place of a file of s slots
+pub reaches-all : (b s end i : ℕ) → end ≤ s * b → Reaches b end (suc s) i
+reaches-all b s end i h = inr (le-trans h (mul-le-mul-right b more))
+  where
+    more : s ≤ i / b + suc s
+    more = omega arith
+
+module _ {b : ℕ} (pos : 0 < b) where
+  pub slot-end : (i : ℕ) → i < (i / b + 1) * b
+  slot-end i = omega (arith, div-ge pos i (i / b) (le-refl _))
+
+  pub same-slot : (i j : ℕ) → i ≤ j → j < (i / b + 1) * b → j / b ≡ i / b
+  same-slot i j l u = omega (arith, div-le pos j (i / b) (omega arith), div-le pos i (j / b) (omega (arith, div-ge pos j (j / b) (le-refl _))))
+
+  pub reaches-slot : (end k i : ℕ) → i < end → Reaches b end (suc k) i → Reaches b end k ((i / b + 1) * b)
+  reaches-slot end k i l (inl h) = absurd (omega arith)
+  reaches-slot end k i l (inr h) =
+      inr (le-trans h (mul-le-mul-right b (far (le-div-iff-mul-le {k = b} {x = i / b + 1} {y = (i / b + 1) * b} pos .1 (le-refl _)))))
+    where
+      far : i / b + 1 ≤ (i / b + 1) * b / b → i / b + suc k ≤ (i / b + 1) * b / b + k
+      far h = omega arith
+
+  pub reaches-next : (end k i : ℕ) → i < end → Reaches b end (suc k) i → Reaches b end k (min end ((i / b + 1) * b))
+  reaches-next end k i l h = go (decLe end ((i / b + 1) * b))
+    where
+      go : Dec (end ≤ (i / b + 1) * b) → Reaches b end k (min end ((i / b + 1) * b))
+      go (yes u) = inl (omega arith)
+      go (no d) = let e : min end ((i / b + 1) * b) ≡ (i / b + 1) * b = omega (arith, d) in rw e (reaches-slot end k i l h)
+
 -- a piece's bytes: zeros for a hole
 abbrev pub laid : Geometry → Store → ℕ → Piece → List ℕ
 laid g st f p = cond (p .hole) (replicate (p .size) 0) (bytesFrom g st f (p .start) (p .size))
+
+pub pieces-none : (g : Geometry) (st : Store) (f end k i : ℕ) → end ≤ i → pieces g st f end k i ≡ []
+unfolding pieces
+pieces-none g st f end zero i h = refl
+pieces-none g st f end (suc k) i h = rw (le-ltb i end h, pieces)
 
 module _ (g : Geometry) (pos : 0 < g .B) (st : Store) (f : ℕ) where
   -- the first of the pieces starts at i
@@ -83,16 +127,13 @@ module _ (g : Geometry) (pos : 0 < g .B) (st : Store) (f : ℕ) where
 
   -- places of one slot are of one kind
   pub same-kind : (i j : ℕ) → i ≤ j → j < (i / g .B + 1) * g .B → holeAt g st f j ≡ holeAt g st f i
-  same-kind i j l u = ap (λ k. isHole (wordOf g (st .words) f k)) same-slot
-    where
-      same-slot : j / g .B ≡ i / g .B
-      same-slot = omega (arith, div-le pos j (i / g .B) (omega arith), div-le pos i (j / g .B) (omega (arith, div-ge pos j (j / g .B) (le-refl _))))
+  same-kind i j l u = ap (λ k. isHole (wordOf g (st .words) f k)) (same-slot pos i j l u)
 
   hole-byte : (i : ℕ) → holeAt g st f i ≡ true → byteAt g st f i ≡ 0
   unfolding byteAt
   hole-byte i e = rw e
 
-  laid-slot : (i n : ℕ) → i + n ≤ (i / g .B + 1) * g .B → laid g st f (record { hole = holeAt g st f i; start = i; size = n }) ≡ bytesFrom g st f i n
+  pub laid-slot : (i n : ℕ) → i + n ≤ (i / g .B + 1) * g .B → laid g st f (record { hole = holeAt g st f i; start = i; size = n }) ≡ bytesFrom g st f i n
   laid-slot i n h = go (holeAt g st f i) refl
     where
       go : (t : Bool) → holeAt g st f i ≡ t → cond t (replicate n 0) (bytesFrom g st f i n) ≡ bytesFrom g st f i n
@@ -120,35 +161,16 @@ module _ (g : Geometry) (pos : 0 < g .B) (st : Store) (f : ℕ) where
       zero-of : end ≤ i → end - i ≡ 0
       zero-of h = omega arith
 
-  pub slot-end : (i : ℕ) → i < (i / g .B + 1) * g .B
-  slot-end i = omega (arith, div-ge pos i (i / g .B) (le-refl _))
-
-  -- k more slots reach the end
-  abbrev Reaches : ℕ → ℕ → ℕ → Type 0
-  Reaches end k i = (end ≤ i) ⊎ (end ≤ (i / g .B + k) * g .B)
-
-  reaches-next : (end k i : ℕ) → i < end → Reaches end (suc k) i → Reaches end k (min end ((i / g .B + 1) * g .B))
-  reaches-next end k i l (inl h) = absurd (omega arith)
-  reaches-next end k i l (inr h) = go (decLe end ((i / g .B + 1) * g .B))
-    where
-      go : Dec (end ≤ (i / g .B + 1) * g .B) → Reaches end k (min end ((i / g .B + 1) * g .B))
-      go (yes u) = inl (omega arith)
-      go (no d) = inr (le-trans h (mul-le-mul-right (g .B) (far (le-div-iff-mul-le {k = g .B} {x = i / g .B + 1} {y = min end ((i / g .B + 1) * g .B)} pos .1 (omega (arith, d))))))
-        where
-          far : i / g .B + 1 ≤ min end ((i / g .B + 1) * g .B) / g .B → i / g .B + suc k ≤ min end ((i / g .B + 1) * g .B) / g .B + k
-          far h = omega arith
-
   -- the pieces laid end to end are the file's bytes
-  pub pieces-laid : (end k i : ℕ) → Reaches end k i → concatMap (laid g st f) (pieces g st f end k i) ≡ bytesFrom g st f i (end - i)
+  pub pieces-laid : (end k i : ℕ) → Reaches (g .B) end k i → concatMap (laid g st f) (pieces g st f end k i) ≡ bytesFrom g st f i (end - i)
   unfolding pieces
-  pieces-laid end zero i (inl h) = sym (nothing i end h)
-  pieces-laid end zero i (inr h) = sym (nothing i end (omega (arith, div-add-mod' i (g .B))))
+  pieces-laid end zero i h = sym (nothing i end (reached (g .B) end i h))
   pieces-laid end (suc k) i h = go (ltb i end) refl (pieces-laid end k (min end ((i / g .B + 1) * g .B)))
     where
       next : ℕ
       next = min end ((i / g .B + 1) * g .B)
 
-      go : (t : Bool) → ltb i end ≡ t → (Reaches end k next → concatMap (laid g st f) (pieces g st f end k next) ≡ bytesFrom g st f next (end - next))
+      go : (t : Bool) → ltb i end ≡ t → (Reaches (g .B) end k next → concatMap (laid g st f) (pieces g st f end k next) ≡ bytesFrom g st f next (end - next))
           → concatMap (laid g st f) (elim t [
             | true ↦ join (record { hole = holeAt g st f i; start = i; size = next - i }) (pieces g st f end k next)
             | false ↦ []
@@ -156,19 +178,16 @@ module _ (g : Geometry) (pos : 0 < g .B) (st : Store) (f : ℕ) where
       go false e ih = sym (nothing i end (ltb-false i end e))
       go true e ih =
           let l : i < end = ltb-true i end e in
-          let m : i ≤ next = omega (arith, slot-end i) in
+          let m : i ≤ next = omega (arith, slot-end pos i) in
           let n : i + (next - i) ≡ next = omega arith in
           let parts : end - i ≡ (next - i) + (end - next) = omega arith in
           laid-join (record { hole = holeAt g st f i; start = i; size = next - i }) (pieces g st f end k next) (rw n (pieces-start end k next))
-          ∙ ap₂ (λ a b. a ++ b) (laid-slot i (next - i) (omega arith)) (ih (reaches-next end k i l h))
+          ∙ ap₂ (λ a b. a ++ b) (laid-slot i (next - i) (omega arith)) (ih (reaches-next pos end k i l h))
           ∙ sym (ap (tab (byteAt g st f) i) parts ∙ tab-append (byteAt g st f) (next - i) (end - next) i ∙ rw n)
 
   -- READ_PLUS gives what READ gives: S + 1 slots are enough
   pub read-plus-laid : (off end : ℕ) → end ≤ g .S * g .B → concatMap (laid g st f) (pieces g st f end (suc (g .S)) off) ≡ bytesFrom g st f off (end - off)
-  read-plus-laid off end h = pieces-laid end (suc (g .S)) off (inr (le-trans h (mul-le-mul-right (g .B) (more (g .S)))))
-    where
-      more : (s : ℕ) → s ≤ off / g .B + suc s
-      more s = omega arith
+  read-plus-laid off end h = pieces-laid end (suc (g .S)) off (reaches-all (g .B) (g .S) end off h)
 
   -- ---- SEEK
 
@@ -182,23 +201,15 @@ module _ (g : Geometry) (pos : 0 < g .B) (st : Store) (f : ℕ) where
   ended : (hole : Bool) (i : ℕ) → sizeOf st f ≤ i → First hole i (sizeOf st f)
   ended hole i h = record { from = omega arith; to = le-refl _; before = λ j l u. absurd (omega arith); here = λ l. absurd (omega arith) }
 
-  pub seek-first : (hole : Bool) (k i : ℕ) → Reaches (sizeOf st f) k i → First hole i (seekFrom g st f hole k i)
+  pub seek-first : (hole : Bool) (k i : ℕ) → Reaches (g .B) (sizeOf st f) k i → First hole i (seekFrom g st f hole k i)
   unfolding seekFrom
-  seek-first hole zero i (inl h) = ended hole i h
-  seek-first hole zero i (inr h) = ended hole i (omega (arith, div-add-mod' i (g .B)))
+  seek-first hole zero i h = ended hole i (reached (g .B) (sizeOf st f) i h)
   seek-first hole (suc k) i h = inside (ltb i (sizeOf st f)) refl (seek-first hole k ((i / g .B + 1) * g .B))
     where
       next : ℕ
       next = (i / g .B + 1) * g .B
 
-      reach : i < sizeOf st f → Reaches (sizeOf st f) (suc k) i → Reaches (sizeOf st f) k next
-      reach l (inl h) = absurd (omega arith)
-      reach l (inr h) = inr (le-trans h (mul-le-mul-right (g .B) (far (le-div-iff-mul-le {k = g .B} {x = i / g .B + 1} {y = next} pos .1 (le-refl _)))))
-        where
-          far : i / g .B + 1 ≤ next / g .B → i / g .B + suc k ≤ next / g .B + k
-          far h = omega arith
-
-      inside : (t : Bool) → ltb i (sizeOf st f) ≡ t → (Reaches (sizeOf st f) k next → First hole next (seekFrom g st f hole k next))
+      inside : (t : Bool) → ltb i (sizeOf st f) ≡ t → (Reaches (g .B) (sizeOf st f) k next → First hole next (seekFrom g st f hole k next))
           → First hole i (elim t [
             | true ↦ elim (Bool·beq hole (holeAt g st f i)) [ true ↦ i | false ↦ seekFrom g st f hole k next ]
             | false ↦ sizeOf st f
@@ -212,9 +223,9 @@ module _ (g : Geometry) (pos : 0 < g .B) (st : Store) (f : ℕ) where
           kind : (t : Bool) → Bool·beq hole (holeAt g st f i) ≡ t → First hole i (elim t [ true ↦ i | false ↦ seekFrom g st f hole k next ])
           kind true q = record { from = omega arith; to = omega (arith, l); before = λ j a b. absurd (omega arith); here = λ u. beq-true hole (holeAt g st f i) q }
           kind false q =
-              let r = ih (reach l h) in
+              let r = ih (reaches-slot pos (sizeOf st f) k i l h) in
               record {
-                from = omega (arith, l, r .from, slot-end i);
+                from = omega (arith, l, r .from, slot-end pos i);
                 to = r .to;
                 before = λ j a b. pick j a b (decLt j next);
                 here = r .here;
@@ -222,4 +233,4 @@ module _ (g : Geometry) (pos : 0 < g .B) (st : Store) (f : ℕ) where
             where
               pick : (j : ℕ) → i ≤ j → j < seekFrom g st f hole k next → Dec (j < next) → holeAt g st f j ≡ not hole
               pick j a b (yes u) = same-kind i j a u ∙ beq-false hole (holeAt g st f i) q
-              pick j a b (no d) = ih (reach l h) .before j (omega (arith, d)) b
+              pick j a b (no d) = ih (reaches-slot pos (sizeOf st f) k i l h) .before j (omega (arith, d)) b

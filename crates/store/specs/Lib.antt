@@ -18,6 +18,7 @@ pub mod Allocate
 pub mod Deallocate
 pub mod Read
 pub mod Seek
+pub mod ReadCode
 pub mod Calls
 pub mod Survey
 pub mod Edits

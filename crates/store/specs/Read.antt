@@ -1,10 +1,13 @@
 -- READ and READ_PLUS (document 01, "Reading"): what is granted, and the pieces.
 use Prim.Native.Nat.{ℕ, zero, suc, _+_, _-_, _*_, _/_, min}
-use mathlib.Core.Bool.{Bool, true, false, Bool·beq}
+use mathlib.Core.Bool.{Bool, true, false, cond, Bool·beq}
 use mathlib.Core.List.{List, [], _∷_}
 use lib.Dec.{leb, ltb}
+use Rattle.xdr.specs.Encode.{opaqueSize}
+use Rattle.xdr.specs.Layout.{Layout, uint, hyper, opaqueData, anyLength, _then_}
 use Rattle.store.specs.Geometry.{Geometry}
 use Rattle.store.specs.Store.{Store, isHole, sizeOf, wordOf}
+use Rattle.store.specs.Content.{bytesFrom}
 
 abbrev pub granted : ℕ → ℕ
 granted n = min n 2048
@@ -46,3 +49,23 @@ pieces g st f end (suc k) i = elim (ltb i end) [
 -- the pieces of READ_PLUS: clipped to the granted range and the size
 abbrev pub readPieces : Geometry → Store → ℕ → ℕ → ℕ → List Piece
 readPieces g st f off n = pieces g st f (min (off + granted n) (sizeOf st f)) (suc (g .S)) off
+
+-- ---- a piece as it is answered
+
+-- content type 0 (data): offset, data; content type 1 (hole): offset, length
+abbrev pub dataPiece : Layout (ℕ × (ℕ × List ℕ))
+dataPiece = uint then hyper then opaqueData anyLength
+
+abbrev pub holePiece : Layout (ℕ × (ℕ × ℕ))
+holePiece = uint then hyper then hyper
+
+abbrev pub pieceBytes : Geometry → Store → ℕ → Piece → List ℕ
+pieceBytes g st f p = cond (p .hole) (holePiece .write (1, (p .start, p .size))) (dataPiece .write (0, (p .start, bytesFrom g st f (p .start) (p .size))))
+
+-- how many bytes that is
+abbrev pub pieceSize : Piece → ℕ
+pieceSize p = cond (p .hole) (4 + (8 + 8)) (4 + (8 + opaqueSize (p .size)))
+
+abbrev pub piecesSize : List Piece → ℕ
+piecesSize [] = 0
+piecesSize (p ∷ ps) = pieceSize p + piecesSize ps

@@ -5,6 +5,8 @@ mod geometry;
 mod make;
 mod plan;
 mod ranges;
+mod read;
+mod seek;
 mod survey;
 mod tally;
 mod view;

@@ -27,3 +27,4 @@ pub mod OwnLaws
 pub mod StoreLaws
 pub mod PlaceLaws
 pub mod ScanLaws
+pub mod EdgeLaws

@@ -1,10 +1,9 @@
 -- For the code that stores an edit's bytes: what it does to a block, a slot's share of a region, and the loop over the slots.
 use Prim.Native.Nat.{ℕ, zero, suc, pred, _+_, _-_, _*_, _/_, _^_, _≤_, _<_, max, min}
 use mathlib.Core.Path.{_≡_, refl, sym, ap, _∙_}
-use mathlib.Core.Bool.{Bool}
 use mathlib.Core.List.{List, _++_}
 use mathlib.Core.Logic.{_≢_, inl, inr}
-use native.Mathlib.Nat.{add-zero, add-suc, add-sub-cancel-left, mul-le-mul-right, le-mul-of-pos-right}
+use native.Mathlib.Nat.{add-zero, sub-zero, add-suc, add-sub-cancel-left, mul-le-mul-right, le-mul-of-pos-right}
 use native.Mathlib.Numerals.{add-one}
 use native.Mathlib.Decide.{decLe, decLt}
 use native.Mathlib.Omega.{arith}
@@ -158,50 +157,67 @@ slot-number {g} {len} {old} {new} {k} {off} {end} h =
     let pos : 0 < g .B = omega (arith, h .backed .block) in
     omega (arith, le-mul-of-pos-right k pos, h .before, h .small)
 
--- the slots of a region, with words that name blocks of the pool
+-- a slot of a region, with words that name blocks of the pool
+pub slot-touched : (g : Geometry) (len old new k off end : ℕ) → Good g → g .N * g .B ≤ len → off < end → end ≤ g .S * g .B
+    → firstSlot g off ≤ k → k < firstSlot g off + slotCount g off end → old / 2 ≤ g .N → new / 2 ≤ g .N → 1 ≤ new / 2 → Touched g len old new k off end
+slot-touched g len old new k off end good room some fits l u op np held =
+    let at = slot-bytes g (block-pos good) off end some fits k l u in
+    record {
+      backed = record {
+        block = good .block;
+        block-most = good .block-most;
+        some = held;
+        new-inside = omega (arith, mul-le-mul-right (g .B) np, room);
+        old-inside = omega (arith, mul-le-mul-right (g .B) op, room);
+      };
+      ordered = omega arith;
+      after = at .0;
+      before = at .1;
+      small = omega (arith, file-most g good, good .block-most);
+    }
+
+-- all of them
 pub all-touched : (g : Geometry) (len : ℕ) (olds news : List ℕ) (off end : ℕ) → Good g → g .N * g .B ≤ len → off < end → end ≤ g .S * g .B
     → length olds ≡ slotCount g off end → length news ≡ length olds → InPool (g .N) olds → InPool (g .N) news
     → ((j : ℕ) → j < length news → 1 ≤ getD news j 0 / 2) → AllTouched g len olds news (firstSlot g off) off end
 all-touched g len olds news off end good room some fits count same op np held = record {
   same = same;
-  slot = λ j h.
-      let at = slot-bytes g (block-pos good) off end some fits (firstSlot g off + j) (omega arith) (omega (arith, count)) in
-      record {
-        backed = record {
-          block = good .block;
-          block-most = good .block-most;
-          some = held j (omega (arith, same));
-          new-inside = omega (arith, mul-le-mul-right (g .B) (np j), room);
-          old-inside = omega (arith, mul-le-mul-right (g .B) (op j), room);
-        };
-        ordered = omega arith;
-        after = at .0;
-        before = at .1;
-        small = omega (arith, file-most g good, good .block-most);
-      };
+  slot = λ j h. slot-touched g len _ _ _ off end good room some fits (omega arith) (omega (arith, count)) (op j) (np j) (held j (omega (arith, same)));
 }
 
-module _ (g : Geometry) (region : ℕ → Bool) (byte : ℕ → ℕ) (first : ℕ) (olds news m : List ℕ) (i n : ℕ) where
-  -- after one slot, what is left of the run
-  pub slots-on : (m′ : List ℕ) → i < n → m′ ≡ storeSlot g region byte (getD olds i 0) (getD news i 0) m (first + i)
-      → storeSlots g region byte first olds news m′ (i + 1) (n - (i + 1)) ≡ storeSlots g region byte first olds news m i (n - i)
-  unfolding storeSlots
-  slots-on m′ h e =
-      let s : n - i ≡ suc (n - (i + 1)) = omega arith in
-      rw (s, add-one i, e)
+-- a loop over slots, i of n done: the steps that are left give the whole run's bytes
+pub record Storing (step : List ℕ → ℕ → List ℕ) (n : ℕ) (m₀ m : List ℕ) (i : ℕ) : Type 0 where
+  pub within : i ≤ n
+  pub same : length m ≡ length m₀
+  pub left : each step m i (n - i) ≡ each step m₀ 0 n
 
-  pub slots-end : n ≤ i → storeSlots g region byte first olds news m i (n - i) ≡ m
-  unfolding storeSlots
-  slots-end h =
-      let z : n - i ≡ 0 = omega arith in
-      rw z
+module _ (step : List ℕ → ℕ → List ℕ) where
+  pub storing-start : (n : ℕ) (m : List ℕ) → Storing step n m m 0
+  storing-start n m = record { within = omega arith; same = refl; left = rw (sub-zero n) }
+
+  module _ {n i : ℕ} {m₀ m : List ℕ} (r : Storing step n m₀ m i) where
+    pub storing-turn : {m′ : List ℕ} → i < n → m′ ≡ step m i → length m′ ≡ length m → Storing step n m₀ m′ (i + 1)
+    storing-turn h e s =
+        let l : n - i ≡ suc (n - suc i) = omega arith in
+        record { within = omega arith; same = s ∙ r .same; left = rw (e, add-one i) (rw l at (r .left)) }
+
+    pub storing-end : n ≤ i → m ≡ each step m₀ 0 n
+    storing-end h =
+        let z : n - i ≡ 0 = omega arith in
+        rw z at (r .left)
 
 -- the same steps, counted from another slot on
-each-from : (step step′ : List ℕ → ℕ → List ℕ) (k n i : ℕ) (m : List ℕ) → ((x : List ℕ) (j : ℕ) → j < i + n → step x (k + j) ≡ step′ x j)
+pub each-from : (step step′ : List ℕ → ℕ → List ℕ) (k n i : ℕ) (m : List ℕ) → ((x : List ℕ) (j : ℕ) → j < i + n → step x (k + j) ≡ step′ x j)
     → each step m (k + i) n ≡ each step′ m i n
 each-from step step′ k zero i m h = refl
 each-from step step′ k (suc n) i m h =
     rw (h m i (omega arith), ← add-suc k i) (each-from step step′ k n (suc i) (step′ m i) (λ x j l. h x j (omega arith)))
+
+-- a file's word, among the n words that start at its slot k
+pub word-cut : (ws : List ℕ) (at k n j : ℕ) → j < n → getD ws (at + (k + j)) 0 ≡ getD (take n (drop (at + k) ws)) j 0
+word-cut ws at k n j h =
+    let place : at + k + j ≡ at + (k + j) = omega arith in
+    sym (getD-take n (drop (at + k) ws) j 0 h ∙ getD-drop (at + k) ws j 0 ∙ ap (λ i. getD ws i 0) place)
 
 -- the bytes of a WRITE, from the words of its slots alone
 pub write-bytes-is : (g : Geometry) (st : Store) (f off end : ℕ) (byte : ℕ → ℕ)
@@ -213,7 +229,7 @@ pub write-bytes-is : (g : Geometry) (st : Store) (f off end : ℕ) (byte : ℕ �
 unfolding writeBytes storeSlots storeAt
 write-bytes-is g st f off end byte =
     rw (add-zero k) at (each-from (storeAt g at (within off end) byte ws ws′) (λ x j. storeSlot g (within off end) byte (getD (cut ws) j 0) (getD (cut ws′) j 0) x (k + j))
-    k n 0 (st .mem) (λ x j l. rw (word ws j (omega arith), word ws′ j (omega arith))))
+    k n 0 (st .mem) (λ x j l. rw (word-cut ws at k n j (omega arith), word-cut ws′ at k n j (omega arith))))
   where
     k : ℕ
     k = firstSlot g off
@@ -232,9 +248,3 @@ write-bytes-is g st f off end byte =
 
     cut : List ℕ → List ℕ
     cut l = take n (drop (at + k) l)
-
-    word : (l : List ℕ) (j : ℕ) → j < n → getD l (at + (k + j)) 0 ≡ getD (cut l) j 0
-    word l j h = sym (getD-take n (drop (at + k) l) j 0 h ∙ getD-drop (at + k) l j 0 ∙ ap (λ i. getD l i 0) place)
-      where
-        place : at + k + j ≡ at + (k + j)
-        place = omega arith

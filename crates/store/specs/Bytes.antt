@@ -1,11 +1,13 @@
 -- Storing an edit's bytes, slot by slot. Contracts cite these.
 use Prim.Native.Nat.{ℕ, pred, _+_, _*_, _/_, _^_, _≤_, _<_}
 use mathlib.Core.Path.{_≡_}
-use mathlib.Core.Bool.{Bool}
+use mathlib.Core.Bool.{Bool, true, false, cond, _||_}
 use mathlib.Core.List.{List}
 use lib.ListN.{length, getD}
-use Rattle.store.specs.Geometry.{Geometry}
-use Rattle.store.specs.Edit.{each, storeSlot}
+use Rattle.store.specs.Geometry.{Geometry, goodGeometry}
+use Rattle.store.specs.Store.{isHole}
+use Rattle.store.specs.Edit.{each, within, storeSlot}
+use Rattle.store.specs.Deallocate.{whole}
 
 -- the block of word w starts at r
 pub record Starts (g : Geometry) (w r : ℕ) : Type 0 where
@@ -36,3 +38,24 @@ pub record AllTouched (g : Geometry) (len : ℕ) (olds news : List ℕ) (first o
 -- n of those slots stored, from the i-th on, in rising order
 unfoldable pub storeSlots : Geometry → (ℕ → Bool) → (ℕ → ℕ) → ℕ → List ℕ → List ℕ → List ℕ → ℕ → ℕ → List ℕ
 storeSlots g region new first olds news m i n = each (λ x j. storeSlot g region new (getD olds j 0) (getD news j 0) x (first + j)) m i n
+
+-- ---- DEALLOCATE: zeros at the region's places, but no byte in a slot that is given back or a hole
+
+-- slot k of the file, whose word goes from `old` to `new`
+unfoldable pub zeroEdge : Geometry → ℕ → ℕ → ℕ → ℕ → ℕ → List ℕ → ℕ → List ℕ
+zeroEdge g size off end old new m k = cond (whole g size off end k || isHole old) m (storeSlot g (within off end) (λ i. 0) old new m k)
+
+-- touched, where it stores a byte
+pub record Edge (g : Geometry) (len old new k size off end : ℕ) : Type 0 where
+  pub geometry : goodGeometry g ≡ true
+  pub slot : k < g .S
+  pub touched : whole g size off end k || isHole old ≡ false → Touched g len old new k off end
+
+-- the slots from `first` on, with their words before and after
+pub record AllEdges (g : Geometry) (len : ℕ) (olds news : List ℕ) (first size off end : ℕ) : Type 0 where
+  pub same : length news ≡ length olds
+  pub slot : (j : ℕ) → j < length olds → Edge g len (getD olds j 0) (getD news j 0) (first + j) size off end
+
+-- n of those slots, from the i-th on, in rising order
+unfoldable pub zeroSlots : Geometry → ℕ → ℕ → ℕ → ℕ → List ℕ → List ℕ → List ℕ → ℕ → ℕ → List ℕ
+zeroSlots g size off end first olds news m i n = each (λ x j. zeroEdge g size off end (getD olds j 0) (getD news j 0) x (first + j)) m i n

@@ -5,8 +5,9 @@ ghost use lib.ListN.{length, getD, take, drop, replicate};
 ghost use Rattle.xdr.specs.Bytes.{splice};
 ghost use Rattle.store.specs.Geometry.{geometryOf};
 ghost use Rattle.store.specs.Edit.{within, slotBytes, storeSlot};
-ghost use Rattle.store.specs.Bytes.{Starts, Backed, Touched, AllTouched, storeSlots};
+ghost use Rattle.store.specs.Bytes.{Starts, Backed, Touched, AllTouched, storeSlots, zeroEdge, Edge, AllEdges, zeroSlots};
 use crate::geometry::Geometry;
+use crate::ranges::slot_stays;
 
 // The bytes at `from` over those at `to`, through `page`, as many as it has.
 fn copy_through(mem: &mut [u8], from: usize, to: usize, page: &mut [u8])
@@ -137,6 +138,47 @@ pub fn write_slots(
     let mut i = 0;
     while i < old.len() {
         write_slot(g, mem, old[i], new[i], first + i, off, d);
+        i += 1;
+    }
+}
+
+// Slot k's share of a DEALLOCATE: nothing where the slot is given back or a hole, else zeros at the places from `off` up to `end`.
+fn zero_edge(
+    g: Geometry,
+    mem: &mut [u8],
+    old: u32,
+    new: u32,
+    k: usize,
+    size: usize,
+    off: usize,
+    end: usize,
+)
+    requires { ⌜ Edge (geometryOf g) (length (now mem)) old new k size off end ⌝ }
+    ensures { λ _. ⌜ now (mem .exit) ≡ zeroEdge (geometryOf g) size off end old new (now (mem .entry)) k ⌝ }
+{
+    if slot_stays(g, old, size, off, end, k) {
+        return;
+    }
+    zero_slot(g, mem, old, new, k, off, end);
+}
+
+// The slots from `first` on, whose words go from those of `old` to those of `new`, in a DEALLOCATE from `off` up to `end`.
+pub fn zero_edges(
+    g: Geometry,
+    mem: &mut [u8],
+    old: &[u32],
+    new: &[u32],
+    first: usize,
+    size: usize,
+    off: usize,
+    end: usize,
+)
+    requires { ⌜ AllEdges (geometryOf g) (length (now mem)) (now old) (now new) first size off end ⌝ }
+    ensures { λ _. ⌜ now (mem .exit) ≡ zeroSlots (geometryOf g) size off end first (now (old .entry)) (now (new .entry)) (now (mem .entry)) 0 (length (now (old .entry))) ⌝ }
+{
+    let mut i = 0;
+    while i < old.len() {
+        zero_edge(g, mem, old[i], new[i], first + i, size, off, end);
         i += 1;
     }
 }

@@ -115,11 +115,11 @@ other-words g f step local n k ws h e q d hq = go (apart (g .S) e f q d hq)
 -- ---- a region's slots
 
 module _ (g : Geometry) (pos : 0 < g .B) (off end : ℕ) (some : off < end) (fits : end ≤ g .S * g .B) where
+  pub first-before : firstSlot g off ≤ ceilDiv end (g .B)
+  first-before = div-le pos off (ceilDiv end (g .B)) (omega (arith, le-ceil pos end (ceilDiv end (g .B)) (le-refl _)))
+
   pub slots-fit : firstSlot g off + slotCount g off end ≤ g .S
-  slots-fit = omega (arith, ceil-le pos end (g .S) fits, first≤)
-    where
-      first≤ : off / g .B ≤ ceilDiv end (g .B)
-      first≤ = div-le pos off (ceilDiv end (g .B)) (omega (arith, le-ceil pos end (ceilDiv end (g .B)) (le-refl _)))
+  slots-fit = omega (arith, ceil-le pos end (g .S) fits, first-before)
 
   -- a slot of the region, by its bytes
   pub slot-in : (q : ℕ) → off < q * g .B + g .B → q * g .B < end → (firstSlot g off ≤ q) × (q < firstSlot g off + slotCount g off end)

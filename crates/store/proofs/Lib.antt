@@ -28,3 +28,4 @@ pub mod StoreLaws
 pub mod PlaceLaws
 pub mod ScanLaws
 pub mod EdgeLaws
+pub mod WriteEdit

@@ -1,9 +1,9 @@
 -- The promise of an edit, and what is known where it is called. Contracts cite these records.
-use Prim.Native.Nat.{ℕ, _<_}
+use Prim.Native.Nat.{ℕ, _+_, _*_, _≤_, _<_, max}
 use mathlib.Core.Path.{_≡_}
 use mathlib.Core.Bool.{Bool, true, cond}
 use mathlib.Core.List.{List}
-use lib.ListN.{length}
+use lib.ListN.{length, getD, set}
 use lib.Dec.{leb}
 use Rattle.store.specs.Geometry.{Geometry}
 use Rattle.store.specs.Store.{Store}
@@ -11,6 +11,8 @@ use Rattle.store.specs.Blocks.{need}
 use Rattle.store.specs.Tables.{Shaped}
 use Rattle.store.specs.Sound.{sound}
 use Rattle.store.specs.Plan.{Counted}
+use Rattle.store.specs.Edit.{within, firstSlot, slotCount}
+use Rattle.store.specs.Bytes.{storeSlots}
 
 -- a sound store with its table of holders, one number for each block, and a file
 pub record EditKnown (g : Geometry) (st : Store) (counts : List ℕ) (f : ℕ) : Type 0 where
@@ -31,3 +33,27 @@ pub record EditPromise (g : Geometry) (st planned : Store) (done : Bool) (after 
   pub words-are : after .words ≡ judged g st planned .words
   pub mem-is : after .mem ≡ judged g st planned .mem
   pub counted : Counted (after .words) counts
+
+-- ---- WRITE
+
+-- a WRITE of len bytes at off; one of no bytes may lie anywhere
+pub record WriteKnown (g : Geometry) (st : Store) (counts : List ℕ) (f off len : ℕ) : Type 0 where
+  pub known : EditKnown g st counts f
+  pub fits : 0 < len → off + len ≤ g .S * g .B
+
+-- a region of file f, from off up to end: it has a byte and ends inside the file's slots
+pub record RegionKnown (g : Geometry) (st : Store) (counts : List ℕ) (f off end : ℕ) : Type 0 where
+  pub known : EditKnown g st counts f
+  pub some : off < end
+  pub fits : end ≤ g .S * g .B
+
+-- its slots are the n from `first` on
+pub record SlotsKnown (g : Geometry) (st : Store) (counts : List ℕ) (f off end first n : ℕ) : Type 0 where
+  pub region : RegionKnown g st counts f off end
+  pub first-is : first ≡ firstSlot g off
+  pub count-is : n ≡ slotCount g off end
+
+-- after the plan: the bytes of the slots from `first` on, whose words went from olds to news, and the size of file f
+pub record Finished (g : Geometry) (new : ℕ → ℕ) (first : ℕ) (olds news : List ℕ) (f off end : ℕ) (sizes mem sizes′ mem′ : List ℕ) : Type 0 where
+  pub sizes-are : sizes′ ≡ set sizes f (max (getD sizes f 0) end)
+  pub mem-is : mem′ ≡ storeSlots g (within off end) new first olds news mem 0 (length olds)

@@ -11,6 +11,7 @@ mod survey;
 mod tally;
 mod view;
 mod words;
+mod write;
 
 pub use geometry::Geometry;
 pub use make::make_empty;
@@ -20,3 +21,4 @@ pub use survey::soundness;
 pub use view::Kind;
 pub use view::slot_kind;
 pub use view::slot_view;
+pub use write::write_file;

@@ -1,0 +1,188 @@
+-- WRITE in place: what its steps ask, and its ways out.
+use Prim.Native.Nat.{ℕ, zero, suc, _+_, _-_, _*_, _/_, _≤_, _<_, max}
+use mathlib.Core.Path.{_≡_, refl, sym, ap, _∙_}
+use mathlib.Core.Bool.{Bool, true, false, not}
+use mathlib.Core.List.{List}
+use native.Mathlib.Nat.{add-sub-cancel-left, mul-le-mul-right}
+use native.Mathlib.Decide.{ℕ-discrete}
+use native.Mathlib.Omega.{arith}
+use borrow.Author.Tests.{le-leb, not-true, not-false}
+use lib.ListN.{length, getD, set, take, drop, length-drop}
+use lib.Seq.{length-take-le, getD-take, getD-drop, getD-set-same, set-getD}
+use lib.Dec.{leb}
+use Rattle.store.specs.Geometry.{Geometry}
+use Rattle.store.specs.Store.{Store, sizeOf}
+use Rattle.store.specs.Blocks.{need}
+use Rattle.store.specs.Tables.{InPool}
+use Rattle.store.specs.Sound.{ceilDiv}
+use Rattle.store.specs.Plan.{Counted}
+use Rattle.store.specs.Own.{WritePlanned}
+use Rattle.store.specs.Edit.{each, within, firstSlot, slotCount, owned, own}
+use Rattle.store.specs.Write.{planWrite, writeBytes, editWrite}
+use Rattle.store.specs.Bytes.{AllTouched, storeSlots}
+use Rattle.store.specs.Edits.{EditKnown, EditPromise, RegionKnown, SlotsKnown, Finished}
+use Rattle.store.proofs.GeometryLaws.{Good, good, block-pos, file-most}
+use Rattle.store.proofs.PlanLaws.{each-sameR, own-sameR, own-slot}
+use Rattle.store.proofs.ViewLaws.{plan-before, own-local}
+use Rattle.store.proofs.FileLaws.{Sound, first-before, slots-fit}
+use Rattle.store.proofs.WriteLaws.{write-is}
+use Rattle.store.proofs.SoundLaws.{sound-facts}
+use Rattle.store.proofs.OwnLaws.{saved-pool, plan-write-is}
+use Rattle.store.proofs.StoreLaws.{all-touched, write-bytes-is}
+
+-- ---- any edit: its two ways out
+
+pub edit-refused : (g : Geometry) (st planned after : Store) (cs : List ℕ) → leb (need planned) (g .N) ≡ false
+    → after .sizes ≡ st .sizes → after .words ≡ st .words → after .mem ≡ st .mem → Counted (after .words) cs → EditPromise g st planned false after cs
+edit-refused g st planned after cs e s w m k = record { answer = sym e; sizes-are = rw e s; words-are = rw e w; mem-is = rw e m; counted = k }
+
+pub edit-done : (g : Geometry) (st planned after : Store) (cs : List ℕ) → leb (need planned) (g .N) ≡ true
+    → after .sizes ≡ planned .sizes → after .words ≡ planned .words → after .mem ≡ planned .mem → Counted (after .words) cs → EditPromise g st planned true after cs
+edit-done g st planned after cs e s w m k = record { answer = sym e; sizes-are = rw e s; words-are = rw e w; mem-is = rw e m; counted = k }
+
+-- ---- the size of a file after an edit up to end
+
+module _ (sizes : List ℕ) (f end : ℕ) where
+  pub size-kept : end ≤ getD sizes f 0 → sizes ≡ set sizes f (max (getD sizes f 0) end)
+  size-kept h =
+      let e : max (getD sizes f 0) end ≡ getD sizes f 0 = omega arith in
+      rw e (sym (set-getD sizes f 0))
+
+  pub size-grown : getD sizes f 0 < end → set sizes f end ≡ set sizes f (max (getD sizes f 0) end)
+  size-grown h =
+      let e : max (getD sizes f 0) end ≡ end = omega arith in
+      rw e
+
+-- ---- words of a plan
+
+-- each slot of a plan has a block afterwards
+pub plan-held : (at n k : ℕ) (ws : List ℕ) → at + (k + n) ≤ length ws → (j : ℕ) → k ≤ j → j < k + n → 1 ≤ getD (each (own at) ws k n) (at + j) 0 / 2
+unfolding own
+plan-held at zero k ws h j l u = absurd (omega arith)
+plan-held at (suc n) k ws h j l u = go (ℕ-discrete j k) (plan-held at n (suc k) (own at ws k) (omega (arith, own-sameR at ws k .slots)) j)
+  where
+    kept : getD (each (own at) (own at ws k) (suc k) n) (at + k) 0 ≡ owned ws (getD ws (at + k) 0)
+    kept =
+        plan-before at (own at) (own-local (λ k. false) at) n (suc k) (at + k) (own at ws k) (omega arith)
+        ∙ getD-set-same ws (at + k) (owned ws (getD ws (at + k) 0)) 0 (omega arith)
+
+    go : Dec (j ≡ k) → (suc k ≤ j → j < suc k + n → 1 ≤ getD (each (own at) (own at ws k) (suc k) n) (at + j) 0 / 2)
+        → 1 ≤ getD (each (own at) (own at ws k) (suc k) n) (at + j) 0 / 2
+    go (yes e) rest = rw (e, kept) (own-slot ws (at + k) (omega arith) .block)
+    go (no d) rest = rest (omega (arith, d)) (omega arith)
+
+-- ---- what is known where an edit is called
+
+module _ {g : Geometry} {st : Store} {cs : List ℕ} {f : ℕ} (k : EditKnown g st cs f) where
+  good-geometry : Good g
+  good-geometry = good g (k .shaped .geometry)
+
+  sound-store : Sound g st
+  sound-store = sound-facts g (block-pos good-geometry) st (k .shaped .lengths) (k .sound)
+
+  -- a WRITE of no bytes
+  pub write-empty : (off len : ℕ) (new : ℕ → ℕ) → len ≡ 0 → EditPromise g st (editWrite g st f off (off + len) new) true st cs
+  unfolding editWrite
+  write-empty off len new e = rw (le-leb (off + len) off (omega arith)) (edit-done g st st st cs (le-leb (need st) (g .N) (sound-store .room)) refl refl refl (k .counted))
+
+-- numbers that the code computes
+pub record RegionRoom (g : Geometry) (off end : ℕ) : Type 0 where
+  pub pos : 0 < g .B
+  pub block-most : g .B ≤ 4096
+  pub slots-most : g .S ≤ 1024
+  pub end-most : end ≤ 4194304
+  pub slots : firstSlot g off + slotCount g off end ≤ g .S
+  pub ordered : firstSlot g off ≤ ceilDiv end (g .B)
+
+module _ {g : Geometry} {st : Store} {cs : List ℕ} {f off end : ℕ} (k : RegionKnown g st cs f off end) where
+  pub region-room : RegionRoom g off end
+  region-room =
+      let o = good-geometry (k .known) in
+      record {
+        pos = block-pos o;
+        block-most = o .block-most;
+        slots-most = o .slots-most;
+        end-most = omega (arith, k .fits, file-most g o);
+        slots = slots-fit g (block-pos o) off end (k .some) (k .fits);
+        ordered = first-before g (block-pos o) off end (k .some) (k .fits);
+      }
+
+-- ---- the slots of a WRITE
+
+abbrev pub slotAt : Geometry → ℕ → ℕ → ℕ
+slotAt g f k = f * g .S + k
+
+-- n words from i on, as the code lends them
+abbrev pub lent : List ℕ → ℕ → ℕ → List ℕ
+lent ws i n = take (i + n - i) (drop i ws)
+
+module _ {g : Geometry} {st : Store} {cs : List ℕ} {f off end first n : ℕ} (k : SlotsKnown g st cs f off end first n) where
+  known : EditKnown g st cs f
+  known = k .region .known
+
+  snd : Sound g st
+  snd = sound-store known
+
+  -- they are in the tables
+  pub slots-inside : slotAt g f first + n ≤ length (st .words)
+  slots-inside = omega (arith, region-room (k .region) .slots, k .first-is, k .count-is, snd .slots, mul-le-mul-right (g .S) (known .file))
+
+  pub file-inside : f < length (st .sizes)
+  file-inside = omega (arith, snd .files, known .file)
+
+  plan-is : planWrite g (st .words) f off end ≡ each (own (slotAt g f first)) (st .words) 0 n
+  plan-is = rw (k .count-is, k .first-is) (plan-write-is g (st .words) f off end)
+
+  cut : slotAt g f first + n - slotAt g f first ≡ n
+  cut = add-sub-cancel-left (slotAt g f first) n
+
+  part-long : (ws : List ℕ) → length ws ≡ length (st .words) → length (take n (drop (slotAt g f first) ws)) ≡ n
+  part-long ws h = length-take-le n (drop (slotAt g f first) ws) (rw (length-drop (slotAt g f first) ws) (omega (arith, slots-inside)))
+
+  edit-is : (new : ℕ → ℕ) → editWrite g st f off end new
+      ≡ record { sizes = set (st .sizes) f (max (sizeOf st f) end); words = planWrite g (st .words) f off end; mem = writeBytes g st f off end new }
+  edit-is = write-is g (region-room (k .region) .pos) st snd f off end (known .file) (k .region .some) (k .region .fits)
+
+  -- after the plan
+  module _ {done : Bool} {after cs′ old : List ℕ} (same : length cs′ ≡ length cs) (p : WritePlanned (st .words) (slotAt g f first) n done after cs′ old) where
+    judged-is : (new : ℕ → ℕ) → leb (need (editWrite g st f off end new)) (g .N) ≡ done
+    judged-is new = rw (edit-is new, plan-is, ← known .blocks, ← same) (sym (p .planned .answer))
+
+    pub write-refused : (new : ℕ → ℕ) → not done ≡ true → EditPromise g st (editWrite g st f off end new) false (record { sizes = st .sizes; words = after; mem = st .mem }) cs′
+    write-refused new e =
+        let no : done ≡ false = not-true done e in
+        edit-refused g st (editWrite g st f off end new) _ cs′ (judged-is new ∙ no) refl (rw (← p .planned .answer, no) at (p .planned .words-are)) refl (p .planned .counted)
+
+    module _ (e : not done ≡ false) where
+      after-is : after ≡ each (own (slotAt g f first)) (st .words) 0 n
+      after-is = rw (← p .planned .answer, not-false done e) at (p .planned .words-are)
+
+      after-long : length after ≡ length (st .words)
+      after-long = ap length after-is ∙ each-sameR (own (slotAt g f first)) (own-sameR (slotAt g f first)) n 0 (st .words) .slots
+
+      old-long : length old ≡ n
+      old-long = ap length (p .saved) ∙ part-long (st .words) refl
+
+      pub slots-touched : AllTouched g (length (st .mem)) old (lent after (slotAt g f first) n) first off end
+      slots-touched =
+          let i : ℕ = slotAt g f first in
+          let long : length (lent after i n) ≡ n = rw cut (part-long after after-long) in
+          let pool : InPool (g .N) after = rw (sym (same ∙ known .blocks)) (p .planned .counted .pool) in
+          rw (← k .first-is) at
+          (all-touched g (length (st .mem)) old (lent after i n) off end (good-geometry known) (omega (arith, snd .bytes)) (k .region .some) (k .region .fits)
+          (old-long ∙ k .count-is) (long ∙ sym old-long)
+          (saved-pool (st .words) i n old (rw cut (p .saved)) (g .N) (snd .pool))
+          (saved-pool after i n (lent after i n) refl (g .N) pool)
+          (λ j h. rw (getD-take (i + n - i) (drop i after) j 0 (omega (arith, long)), getD-drop i after j 0, after-is)
+          (plan-held i n 0 (st .words) (omega (arith, slots-inside)) j (omega arith) (omega (arith, long)))))
+
+      pub write-done : (new : ℕ → ℕ) {sizes′ mem′ : List ℕ}
+          → Finished g new first old (lent after (slotAt g f first) n) f off end (st .sizes) (st .mem) sizes′ mem′
+          → EditPromise g st (editWrite g st f off end new) true (record { sizes = sizes′; words = after; mem = mem′ }) cs′
+      write-done new {sizes′} {mem′} fin =
+          edit-done g st (editWrite g st f off end new) _ cs′ (judged-is new ∙ not-false done e)
+          (rw (edit-is new) (fin .sizes-are)) (rw (edit-is new) (after-is ∙ sym plan-is)) (rw (edit-is new) (fin .mem-is ∙ bytes-are)) (p .planned .counted)
+        where
+          bytes-are : storeSlots g (within off end) new first old (lent after (slotAt g f first) n) (st .mem) 0 (length old)
+              ≡ writeBytes g st f off end new
+          bytes-are = rw (write-bytes-is g st f off end new, ← k .count-is, ← k .first-is, plan-is, ← after-is, ← p .saved, cut, old-long)

@@ -1,0 +1,78 @@
+use mathlib.Core.Path.{refl, sym}
+use native.Mathlib.Omega.{arith}
+use lib.Seq.{length-take-le}
+use Rattle.store.proofs.WriteEdit.{region-room}
+use borrow.Author.Needs.{needs}
+use Rattle.store.proofs.write.write_saving.Statement.{statement}
+use Rattle.store.proofs.write.write_saving.Tie as tie
+
+div-first : tie.Need-div-first
+div-first c = let s = c .before .before .before .before .before .before .before in omega (arith, region-room (s .pre .0))
+
+add-n : tie.Need-add-n
+add-n c = let s = c .before .before .before .before .before .before .before in omega (arith, region-room (s .pre .0))
+
+sub-n : tie.Need-sub-n
+sub-n c = let s = c .before .before .before .before .before .before .before .before in omega (arith, region-room (s .pre .0))
+
+add-n-2 : tie.Need-add-n-2
+add-n-2 c = let s = c .before .before .before .before .before .before .before .before in omega (arith, region-room (s .pre .0))
+
+div-n : tie.Need-div-n
+div-n c = let s = c .before .before .before .before .before .before .before .before .before in omega (arith, region-room (s .pre .0))
+
+sub-n-2 : tie.Need-sub-n-2
+sub-n-2 c = let s = c .before .before .before .before .before .before .before .before .before in omega (arith, region-room (s .pre .0))
+
+slice-relend-prefix-write-range : tie.Need-slice-relend-prefix-write-range
+slice-relend-prefix-write-range c =
+    let s = c .before .before .before .before .before .before .before .before .before .before .before .before .before in
+    omega (arith, region-room (s .pre .0))
+
+slice-aggregate-write-range : tie.Need-slice-aggregate-write-range
+slice-aggregate-write-range c =
+    let s = c .before .before .before .before .before .before .before .before .before .before .before .before .before .before in
+    sym (length-take-le _ _ (omega (arith, region-room (s .pre .0), s .pre .1)))
+
+write-range-requires : tie.Need-write-range-requires
+write-range-requires c κs =
+    let s = c .before .before .before .before .before .before .before .before .before .before .before .before .before .before in
+    record { region = s .pre .0; first-is = refl; count-is = length-take-le _ _ (omega (arith, region-room (s .pre .0), s .pre .1)) }
+
+same-length : tie.Need-same-length
+same-length c = search needs
+
+same-length-2 : tie.Need-same-length-2
+same-length-2 c = search needs
+
+same-length-3 : tie.Need-same-length-3
+same-length-3 c = search needs
+
+same-length-4 : tie.Need-same-length-4
+same-length-4 c = search needs
+
+same-length-5 : tie.Need-same-length-5
+same-length-5 c = search needs
+
+returns : tie.Need-returns
+returns c = search needs
+
+pub write-saving-spec : {M : Type 1} → statement M
+write-saving-spec =
+    tie.close
+    (tie.spec
+    div-first
+    add-n
+    sub-n
+    add-n-2
+    div-n
+    sub-n-2
+    slice-relend-prefix-write-range
+    slice-aggregate-write-range
+    write-range-requires
+    same-length
+    same-length-2
+    same-length-3
+    same-length-4
+    same-length-5
+    returns)

@@ -1,0 +1,157 @@
+// WRITE: the plan of its slots, and where the plan fits the pool the bytes and the size.
+ghost use mathlib.Core.Path.{_≡_};
+ghost use Prim.Native.Nat.{max, _+_, _-_, _^_, _<_, _≤_};
+ghost use lib.ListN.{length, getD, set};
+ghost use Rattle.store.specs.Geometry.{geometryOf};
+ghost use Rattle.store.specs.Write.{editWrite};
+ghost use Rattle.store.specs.Bytes.{AllTouched};
+ghost use Rattle.store.specs.Edits.{EditPromise, WriteKnown, RegionKnown, SlotsKnown, Finished};
+use crate::bytes::write_slots;
+use crate::geometry::Geometry;
+use crate::plan::plan_write;
+
+// The size of file f becomes `end` where it was smaller.
+pub fn grow(sizes: &mut [u64], f: usize, end: usize)
+    requires { ⌜ f < length (now sizes) ⌝ }
+    ensures { λ _. ⌜ now (sizes .exit) ≡ set (now (sizes .entry)) f (max (getD (now (sizes .entry)) f 0) end) ⌝ }
+{
+    let e = end as u64;
+    if e <= sizes[f] {
+        return;
+    }
+    sizes[f] = e;
+}
+
+// After a plan that was done: the bytes of d at `off`, in the slots from `first` on whose words went from `old` to `new`, and
+// the size of file f.
+fn finish(
+    g: Geometry,
+    sizes: &mut [u64],
+    mem: &mut [u8],
+    old: &[u32],
+    new: &[u32],
+    f: usize,
+    first: usize,
+    off: usize,
+    d: &[u8],
+)
+    requires { ⌜ AllTouched (geometryOf g) (length (now mem)) (now old) (now new) first off (off + length (now d))
+        × ((f < length (now sizes)) × (off + length (now d) < 2 ^ 64)) ⌝ }
+    ensures { λ _. ⌜ Finished (geometryOf g) (λ p. getD (now (d .entry)) (p - off) 0) first (now (old .entry)) (now (new .entry))
+        f off (off + length (now (d .entry))) (now (sizes .entry)) (now (mem .entry)) (now (sizes .exit)) (now (mem .exit)) ⌝ }
+{
+    write_slots(g, mem, old, new, first, off, d);
+    grow(sizes, f, off + d.len());
+}
+
+// A WRITE into the slots from `first` on, as many as `old` has words to save.
+fn write_range(
+    g: Geometry,
+    sizes: &mut [u64],
+    words: &mut [u32],
+    mem: &mut [u8],
+    counts: &mut [u32],
+    f: usize,
+    first: usize,
+    off: usize,
+    d: &[u8],
+    old: &mut [u32],
+) -> bool
+    requires { ⌜ SlotsKnown (geometryOf g) (record { sizes = now sizes; words = now words; mem = now mem }) (now counts)
+        f off (off + length (now d)) first (length (now old)) ⌝ }
+    ensures { λ r. ⌜ EditPromise (geometryOf g) (record { sizes = now (sizes .entry); words = now (words .entry); mem = now (mem .entry) })
+        (editWrite (geometryOf g) (record { sizes = now (sizes .entry); words = now (words .entry); mem = now (mem .entry) })
+        f off (off + length (now (d .entry))) (λ p. getD (now (d .entry)) (p - off) 0))
+        r (record { sizes = now (sizes .exit); words = now (words .exit); mem = now (mem .exit) }) (now (counts .exit)) ⌝ }
+{
+    let i = f * g.slots + first;
+    let n = old.len();
+    let end = i + n;
+    if !plan_write(words, counts, i, n, old) {
+        return false;
+    }
+    finish(g, sizes, mem, old, &words[i..end], f, first, off, d);
+    true
+}
+
+// A WRITE of some bytes. `saved` has a word for each slot of a file.
+fn write_saving(
+    g: Geometry,
+    sizes: &mut [u64],
+    words: &mut [u32],
+    mem: &mut [u8],
+    counts: &mut [u32],
+    f: usize,
+    off: usize,
+    d: &[u8],
+    saved: &mut [u32],
+) -> bool
+    requires { ⌜ RegionKnown (geometryOf g) (record { sizes = now sizes; words = now words; mem = now mem }) (now counts)
+        f off (off + length (now d)) × (geometryOf g .S ≤ length (now saved)) ⌝ }
+    ensures { λ r. ⌜ EditPromise (geometryOf g) (record { sizes = now (sizes .entry); words = now (words .entry); mem = now (mem .entry) })
+        (editWrite (geometryOf g) (record { sizes = now (sizes .entry); words = now (words .entry); mem = now (mem .entry) })
+        f off (off + length (now (d .entry))) (λ p. getD (now (d .entry)) (p - off) 0))
+        r (record { sizes = now (sizes .exit); words = now (words .exit); mem = now (mem .exit) }) (now (counts .exit)) ⌝ }
+{
+    let first = off / g.block_size;
+    let n = (off + d.len() + (g.block_size - 1)) / g.block_size - first;
+    write_range(
+        g,
+        sizes,
+        words,
+        mem,
+        counts,
+        f,
+        first,
+        off,
+        d,
+        &mut saved[..n],
+    )
+}
+
+// The same; it owns the words to save and only lends them.
+fn write_some(
+    g: Geometry,
+    sizes: &mut [u64],
+    words: &mut [u32],
+    mem: &mut [u8],
+    counts: &mut [u32],
+    f: usize,
+    off: usize,
+    d: &[u8],
+) -> bool
+    requires { ⌜ RegionKnown (geometryOf g) (record { sizes = now sizes; words = now words; mem = now mem }) (now counts)
+        f off (off + length (now d)) ⌝ }
+    ensures { λ r. ⌜ EditPromise (geometryOf g) (record { sizes = now (sizes .entry); words = now (words .entry); mem = now (mem .entry) })
+        (editWrite (geometryOf g) (record { sizes = now (sizes .entry); words = now (words .entry); mem = now (mem .entry) })
+        f off (off + length (now (d .entry))) (λ p. getD (now (d .entry)) (p - off) 0))
+        r (record { sizes = now (sizes .exit); words = now (words .exit); mem = now (mem .exit) }) (now (counts .exit)) ⌝ }
+{
+    let mut saved = [0u32; 1024];
+    write_saving(g, sizes, words, mem, counts, f, off, d, &mut saved)
+}
+
+// Writes d into file f at `off`. Answers false, and changes nothing, exactly if the store would then need more blocks than
+// there are.
+pub fn write_file(
+    g: Geometry,
+    sizes: &mut [u64],
+    words: &mut [u32],
+    mem: &mut [u8],
+    counts: &mut [u32],
+    f: usize,
+    off: usize,
+    d: &[u8],
+) -> bool
+    requires { ⌜ WriteKnown (geometryOf g) (record { sizes = now sizes; words = now words; mem = now mem }) (now counts)
+        f off (length (now d)) ⌝ }
+    ensures { λ r. ⌜ EditPromise (geometryOf g) (record { sizes = now (sizes .entry); words = now (words .entry); mem = now (mem .entry) })
+        (editWrite (geometryOf g) (record { sizes = now (sizes .entry); words = now (words .entry); mem = now (mem .entry) })
+        f off (off + length (now (d .entry))) (λ p. getD (now (d .entry)) (p - off) 0))
+        r (record { sizes = now (sizes .exit); words = now (words .exit); mem = now (mem .exit) }) (now (counts .exit)) ⌝ }
+{
+    if d.len() == 0 {
+        return true;
+    }
+    write_some(g, sizes, words, mem, counts, f, off, d)
+}

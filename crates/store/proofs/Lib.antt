@@ -29,3 +29,4 @@ pub mod PlaceLaws
 pub mod ScanLaws
 pub mod EdgeLaws
 pub mod WriteEdit
+pub mod SettleLaws

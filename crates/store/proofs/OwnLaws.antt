@@ -1,15 +1,14 @@
--- Laws on plans in place: one slot, a range of slots, and the plan of a WRITE, kept or undone.
+-- Laws on unshared blocks in place: one slot, a range of slots, old words stored again, and that a range that stops does not fit the pool.
 use Prim.Native.Nat.{ℕ, zero, suc, _+_, _-_, _*_, _/_, _%_, _≤_, _<_, max}
 use mathlib.Core.Path.{_≡_, refl, sym, ap, _∙_}
-use mathlib.Core.Bool.{true, false, true≢false}
+use mathlib.Core.Bool.{Bool, true, false, cond, true≢false}
 use mathlib.Core.List.{List, [], _∷_, append-assoc}
 use native.Mathlib.Nat.{add-zero, zero-add, add-suc, suc-add, add-assoc}
-use native.Mathlib.Decide.{decLt}
 use native.Mathlib.Numerals.{add-one}
 use native.Mathlib.Omega.{arith}
 use borrow.Author.Tests.{eq-eqb, ne-eqb, lt-leb}
-use lib.ListN.{length, getD, set, take, drop, length-take, length-drop, take-append-drop, drop-of-length-le, List·getD-eq-default}
-use lib.Seq.{set-getD, take-set-le, drop-set-lt, drop-drop, drop-cons, getD-take, getD-drop, length-take-le, sets, sets-eq}
+use lib.ListN.{length, getD, set, take, drop, drop-of-length-le}
+use lib.Seq.{set-getD, drop-cons, sets, sets-eq}
 use Rattle.xdr.specs.Bytes.{splice}
 use Rattle.store.specs.Geometry.{Geometry}
 use Rattle.store.specs.Count.{bit, sumTo}
@@ -17,13 +16,14 @@ use Rattle.store.specs.Store.{word}
 use Rattle.store.specs.Blocks.{holds, holders, top, used, owed, lowestFree}
 use Rattle.store.specs.Tables.{InPool}
 use Rattle.store.specs.Tally.{takesBy, firstZero}
-use Rattle.store.specs.Plan.{Counted, Stored, fitsPool, Planned}
-use Rattle.store.specs.Edit.{each, firstSlot, slotCount, owned, own}
+use Rattle.store.specs.Plan.{Counted, Stored, fitsPool}
+use Rattle.store.specs.Edit.{each, firstSlot, slotCount, owned, own, ownUnless}
 use Rattle.store.specs.Write.{planWrite}
-use Rattle.store.specs.Own.{takes, NoneFree, Undone, SlotOwned, RangeOwned, WritePlanned}
+use Rattle.store.specs.Own.{takes, NoneFree, SlotOwned, RangeOwned}
 use Rattle.store.proofs.CountLaws.{sumTo-add, sumTo-point, sumTo-cut, sumTo-ge}
 use Rattle.store.proofs.NeedLaws.{lowestFree-least}
-use Rattle.store.proofs.PlanLaws.{each-keeps, each-sameR, own-sameR, own-slot, plan-used}
+use Rattle.store.proofs.PlanLaws.{each-sameR, ownUnless-sameR, own-slot, plan-used}
+use Rattle.store.proofs.RangeLaws.{each-shift}
 use Rattle.store.proofs.TallyLaws.{takes-same, tallied-free, tallied-full}
 
 -- ---- the lowest free block's number is at most the number of slots
@@ -57,6 +57,18 @@ lowestFree≤slots ws =
 
 -- ---- one slot
 
+module _ {skip : Bool} {ws cs : List ℕ} {i : ℕ} {after cs′ : List ℕ} where
+  slot-done : after ≡ cond skip ws (set ws i (owned ws (getD ws i 0))) → Counted after cs′ → SlotOwned skip ws cs i true after cs′
+  slot-done e k = record { words-are = e; counted = k; counts-same = λ d. absurd (true≢false d); stopped = λ d. absurd (true≢false d) }
+
+  -- one that is not skipped
+  pub slot-asked : {d : Bool} → skip ≡ false → SlotOwned false ws cs i d after cs′ → SlotOwned skip ws cs i d after cs′
+  slot-asked e s = rw e s
+
+-- a skipped slot is left
+pub slot-left : {skip : Bool} {ws cs : List ℕ} {i : ℕ} → skip ≡ true → Counted ws cs → SlotOwned skip ws cs i true ws cs
+slot-left e = slot-done (rw e)
+
 module _ (ws cs : List ℕ) (known : Counted ws cs) where
   -- a free block of the table is low enough for a word
   pub free-low : firstZero cs < length cs → firstZero cs ≤ 65536
@@ -66,27 +78,23 @@ module _ (ws cs : List ℕ) (known : Counted ws cs) where
     takes-is : takesBy cs (getD ws i 0) ≡ takes ws (getD ws i 0)
     takes-is = takes-same ws cs (known .table) (known .pool) (getD ws i 0) (known .pool i)
 
-    -- slot i with an unshared block
-    slot-done : (after cs′ : List ℕ) → after ≡ set ws i (owned ws (getD ws i 0)) → Counted after cs′ → SlotOwned ws cs i true after cs′
-    slot-done after cs′ e k = record { words-are = e; counted = k; counts-same = λ d. absurd (true≢false d); stopped = λ d. absurd (true≢false d) }
-
-    pub slot-kept : takesBy cs (getD ws i 0) ≡ false → SlotOwned ws cs i true ws cs
+    pub slot-kept : takesBy cs (getD ws i 0) ≡ false → SlotOwned false ws cs i true ws cs
     unfolding owned
-    slot-kept e = slot-done ws cs (rw (sym takes-is ∙ e) (sym (set-getD ws i 0))) known
+    slot-kept e = slot-done (rw (sym takes-is ∙ e) (sym (set-getD ws i 0))) known
 
     module _ (e : takesBy cs (getD ws i 0) ≡ true) where
-      pub slot-stopped : length cs ≤ firstZero cs → SlotOwned ws cs i false ws cs
+      pub slot-stopped : length cs ≤ firstZero cs → SlotOwned false ws cs i false ws cs
       slot-stopped h = record {
         words-are = refl;
         counted = known;
         counts-same = λ d. refl;
-        stopped = λ d. record { wants = sym takes-is ∙ e; full = tallied-full ws cs (known .table) (known .pool) h };
+        stopped = λ d. record { asked = refl; wants = sym takes-is ∙ e; full = tallied-full ws cs (known .table) (known .pool) h };
       }
 
-      pub slot-taken : firstZero cs < length cs → (after cs′ : List ℕ) → Stored ws i (word (suc (firstZero cs)) (getD ws i 0 % 2)) after cs′ → SlotOwned ws cs i true after cs′
+      pub slot-taken : firstZero cs < length cs → (after cs′ : List ℕ) → Stored ws i (word (suc (firstZero cs)) (getD ws i 0 % 2)) after cs′ → SlotOwned false ws cs i true after cs′
       unfolding owned
       slot-taken h after cs′ s =
-          slot-done after cs′ (s .words-are ∙ rw (sym takes-is ∙ e, tallied-free ws cs (known .table) (known .pool) h)) (s .counted)
+          slot-done (s .words-are ∙ rw (sym takes-is ∙ e, tallied-free ws cs (known .table) (known .pool) h)) (s .counted)
 
 -- ---- a range of slots
 
@@ -94,31 +102,46 @@ pub each-split {ℓ} : {A : Type ℓ} (step : A → ℕ → A) (r m k : ℕ) (a 
 each-split step zero m k a = rw (zero-add m, add-zero k)
 each-split step (suc r) m k a = rw (suc-add r m, add-suc k r) (each-split step r m (suc k) (step a k) ∙ rw (suc-add k r))
 
-pub each-shift {ℓ} : {A : Type ℓ} (f g : A → ℕ → A) (j : ℕ) → ((x : A) (k : ℕ) → f x (j + k) ≡ g x k) → (n k : ℕ) (a : A) → each f a (j + k) n ≡ each g a k n
-each-shift f g j h zero k a = refl
-each-shift f g j h (suc n) k a = rw (h a k, ← add-suc j k) (each-shift f g j h n (suc k) (g a k))
-
 -- the plan of a WRITE, from the index of its first slot
 pub plan-write-is : (g : Geometry) (ws : List ℕ) (f off end : ℕ)
     → planWrite g ws f off end ≡ each (own (f * g .S + firstSlot g off)) ws 0 (slotCount g off end)
 unfolding planWrite own
 plan-write-is g ws f off end =
-    ap (λ k. each (own (f * g .S)) ws k (slotCount g off end)) (sym (add-zero (firstSlot g off)))
-    ∙ each-shift (own (f * g .S)) (own (f * g .S + firstSlot g off)) (firstSlot g off) (λ x k. rw (add-assoc (f * g .S) (firstSlot g off) k)) (slotCount g off end) 0 ws
+    each-shift _ _ (firstSlot g off) (slotCount g off end) (firstSlot g off) 0 ws (λ x k. rw (add-assoc (f * g .S) (firstSlot g off) k)) (omega arith)
 
--- one more slot; and the slot that stops the range
-module _ (ws words cs after cs′ : List ℕ) (i k : ℕ) (e : words ≡ each (own i) ws 0 k) where
-  pub range-more : SlotOwned words cs (i + k) true after cs′ → after ≡ each (own i) ws 0 (k + 1)
-  unfolding own
-  range-more o = o .words-are ∙ rw (each-split (own i) k 1 0 ws, zero-add k, ← e)
+-- a loop over n slots from `first` on, j of them done
+pub record Owning (skip : ℕ → Bool) (ws₀ cs₀ : List ℕ) (at first n : ℕ) (ws cs : List ℕ) (j : ℕ) : Type 0 where
+  pub within : j ≤ n
+  pub slots : length ws ≡ length ws₀
+  pub blocks : length cs ≡ length cs₀
+  pub counted : Counted ws cs
+  pub done : ws ≡ each (ownUnless skip at) ws₀ first j
 
-  pub range-stopped : (n : ℕ) → k < n → SlotOwned words cs (i + k) false after cs′ → RangeOwned ws i n k after cs′
-  range-stopped n h o = record {
-    most = omega arith;
-    words-are = o .words-are ∙ e;
-    counted = o .counted;
-    stopped = λ l. rw (o .words-are, o .counts-same refl) (o .stopped refl);
-  }
+module _ {skip : ℕ → Bool} {ws₀ cs₀ ws cs : List ℕ} {at first n j : ℕ} (o : Owning skip ws₀ cs₀ at first n ws cs j) where
+  pub own-end : n ≤ j → RangeOwned skip ws₀ at first n j ws cs
+  own-end h = record { most = o .within; words-are = o .done; counted = o .counted; stopped = λ l. absurd (omega arith) }
+
+  -- one more slot; and the slot that stops the loop
+  module _ (k : ℕ) (e : k ≡ first + j) (h : j < n) {after cs′ : List ℕ} where
+    pub own-turn : SlotOwned (skip k) ws cs (at + k) true after cs′ → length after ≡ length ws → length cs′ ≡ length cs
+        → Owning skip ws₀ cs₀ at first n after cs′ (j + 1)
+    unfolding own
+    own-turn s long same = record {
+      within = omega arith;
+      slots = long ∙ o .slots;
+      blocks = same ∙ o .blocks;
+      counted = s .counted;
+      done = s .words-are ∙ ap (λ x. ownUnless skip at x k) (o .done) ∙ ap (ownUnless skip at (each (ownUnless skip at) ws₀ first j)) e
+          ∙ sym (each-split (ownUnless skip at) j 1 first ws₀);
+    }
+
+    pub own-stop : SlotOwned (skip k) ws cs (at + k) false after cs′ → RangeOwned skip ws₀ at first n j after cs′
+    own-stop s = record {
+      most = o .within;
+      words-are = s .words-are ∙ o .done;
+      counted = s .counted;
+      stopped = λ l. rw (s .words-are, s .counts-same refl, ← e) (s .stopped refl);
+    }
 
 -- ---- old words stored again
 
@@ -134,7 +157,7 @@ module _ (old words : List ℕ) (i k : ℕ) where
 -- ---- a plan that stops does not fit
 
 -- at the stop every block is used, and one more slot takes one
-stop-used : (n : ℕ) (ws : List ℕ) (i : ℕ) → i < length ws → InPool n ws → NoneFree ws i n → n < used (set ws i (owned ws (getD ws i 0)))
+stop-used : {skip : Bool} (n : ℕ) (ws : List ℕ) (i : ℕ) → i < length ws → InPool n ws → NoneFree skip ws i n → n < used (set ws i (owned ws (getD ws i 0)))
 unfolding owned
 stop-used n ws i h pool none =
     let w : ℕ = getD ws i 0 in
@@ -142,85 +165,20 @@ stop-used n ws i h pool none =
     omega (arith, own-slot ws i h .in-pool, ap (λ x. x / 2) e, pool i, none .full)
 
 -- used blocks only grow along the plan
-stop-unfit : (ws : List ℕ) (i n r : ℕ) (mid cs : List ℕ) → i + n ≤ length ws → RangeOwned ws i n r mid cs → r < n → fitsPool (length cs) (each (own i) ws 0 n) ≡ false
+pub stop-unfit : (skip : ℕ → Bool) (at : ℕ) (ws : List ℕ) (first n r : ℕ) (mid cs : List ℕ) → at + (first + n) ≤ length ws
+    → RangeOwned skip ws at first n r mid cs → r < n → fitsPool (length cs) (each (ownUnless skip at) ws first n) ≡ false
 unfolding own
-stop-unfit ws i n r mid cs inside o h =
-    let long : length mid ≡ length ws = ap length (o .words-are) ∙ each-sameR (own i) (own-sameR i) r 0 ws .slots in
-    let more : length cs < used (own i mid r) = stop-used (length cs) mid (i + r) (omega arith) (o .counted .pool) (o .stopped h) in
+stop-unfit skip at ws first n r mid cs inside o h =
+    let step : List ℕ → ℕ → List ℕ = ownUnless skip at in
+    let k : ℕ = first + r in
     let m : ℕ = n - suc r in
+    let stop : NoneFree (skip (first + r)) mid (at + (first + r)) (length cs) = o .stopped h in
+    let long : length mid ≡ length ws = ap length (o .words-are) ∙ each-sameR step (ownUnless-sameR skip at) r first ws .slots in
+    let next : step mid k ≡ set mid (at + k) (owned mid (getD mid (at + k) 0)) = rw (stop .asked) in
+    let more : length cs < used (step mid k) = rw next (stop-used (length cs) mid (at + k) (omega arith) (o .counted .pool) stop) in
     let e : n ≡ r + suc m = omega arith in
-    let rest : each (own i) ws 0 n ≡ each (own i) (own i mid r) (suc r) m
-    = ap (each (own i) ws 0) e ∙ each-split (own i) r (suc m) 0 ws ∙ rw (zero-add r, ← o .words-are) in
-    let grows : used (own i mid r) ≤ used (each (own i) (own i mid r) (suc r) m)
-    = plan-used (λ k. false) i m (suc r) (own i mid r) (omega (arith, own-sameR i mid r .slots)) in
-    rw rest (lt-leb (used (each (own i) (own i mid r) (suc r) m) + owed (each (own i) (own i mid r) (suc r) m)) (length cs) (omega arith))
-
--- ---- a plan undone
-
--- words that differ from ws at the n slots from i on alone
-pub record Outside (ws : List ℕ) (i n : ℕ) (after : List ℕ) : Type 0 where
-  pub front : take i after ≡ take i ws
-  pub back : drop (i + n) after ≡ drop (i + n) ws
-
-own-outside : (ws : List ℕ) (i n r : ℕ) → r ≤ n → Outside ws i n (each (own i) ws 0 r)
-unfolding own
-own-outside ws i n r h = each-keeps (Outside ws i n) (own i) r 0 ws step (record { front = refl; back = refl })
-  where
-    step : (x : List ℕ) (j : ℕ) → 0 ≤ j → j < 0 + r → Outside ws i n x → Outside ws i n (own i x j)
-    step x j l u o = record {
-      front = take-set-le i x (i + j) _ (omega arith) ∙ o .front;
-      back = drop-set-lt (i + n) x (i + j) _ (omega arith) ∙ o .back;
-    }
-
--- the old words of the n slots from i on, as the code takes them
-module _ (ws : List ℕ) (i n : ℕ) (old : List ℕ) (saved : old ≡ take (i + n - i) (drop i ws)) where
-  saved-is : old ≡ take n (drop i ws)
-  saved-is = let e : i + n - i ≡ n = omega arith in rw e at saved
-
-  -- what `undo` asks
-  pub saved-pool : (m : ℕ) → InPool m ws → InPool m old
-  saved-pool m h p = rw saved-is (go (decLt p n))
-    where
-      go : Dec (p < n) → getD (take n (drop i ws)) p 0 / 2 ≤ m
-      go (yes l) = rw (getD-take n (drop i ws) p 0 l, getD-drop i ws p 0) (h (i + p))
-      go (no d) =
-          let l : length (take n (drop i ws)) ≤ p = rw (length-take n (drop i ws)) (omega (arith, d)) in
-          rw (List·getD-eq-default (take n (drop i ws)) 0 l) (omega arith)
-
-  module _ (inside : i + n ≤ length ws) (mid : List ℕ) where
-    -- stored again
-    saved-back : Outside ws i n mid → splice mid i old ≡ ws
-    unfolding splice
-    saved-back o =
-        let e : length (take n (drop i ws)) ≡ n = length-take-le n (drop i ws) (rw (length-drop i ws) (omega arith)) in
-        rw (saved-is, e, o .front, o .back, ← drop-drop n i ws, take-append-drop n (drop i ws)) (take-append-drop i ws)
-
-    pub planned-undone : (planned after cs : List ℕ) → Outside ws i n mid → fitsPool (length cs) planned ≡ false → Undone mid i old after cs
-        → Planned ws planned false after cs
-    planned-undone planned after cs o e u = record { answer = sym e; words-are = rw e (u .words-are ∙ saved-back o); counted = u .counted }
-
-    -- ---- the plan of a WRITE
-
-    module _ (r : ℕ) (cs : List ℕ) (o : RangeOwned ws i n r mid cs) where
-      write-undone : fitsPool (length cs) (each (own i) ws 0 n) ≡ false → (after cs′ : List ℕ) → length cs′ ≡ length cs → Undone mid i old after cs′
-          → WritePlanned ws i n false after cs′ old
-      write-undone e after cs′ same u = record {
-        planned = planned-undone (each (own i) ws 0 n) after cs′ (rw (o .words-are) (own-outside ws i n r (o .most))) (rw same e) u;
-        saved = saved-is;
-      }
-
-      pub write-stopped : r < n → (after cs′ : List ℕ) → length cs′ ≡ length cs → Undone mid i old after cs′ → WritePlanned ws i n false after cs′ old
-      write-stopped h = write-undone (stop-unfit ws i n r mid cs inside o h)
-
-      module _ (all : n ≤ r) where
-        whole : mid ≡ each (own i) ws 0 n
-        whole = let e : r ≡ n = omega (arith, o .most) in o .words-are ∙ ap (each (own i) ws 0) e
-
-        pub write-unfit : fitsPool (length cs) mid ≡ false → (after cs′ : List ℕ) → length cs′ ≡ length cs → Undone mid i old after cs′
-            → WritePlanned ws i n false after cs′ old
-        write-unfit e = write-undone (ap (fitsPool (length cs)) (sym whole) ∙ e)
-
-        pub write-kept : fitsPool (length cs) mid ≡ true → WritePlanned ws i n true mid cs old
-        write-kept e =
-            let f : fitsPool (length cs) (each (own i) ws 0 n) ≡ true = ap (fitsPool (length cs)) (sym whole) ∙ e in
-            record { planned = record { answer = sym f; words-are = rw f whole; counted = o .counted }; saved = saved-is }
+    let rest : each step ws first n ≡ each step (step mid k) (suc k) m
+    = ap (each step ws first) e ∙ each-split step r (suc m) first ws ∙ ap (λ x. each step x k (suc m)) (sym (o .words-are)) in
+    let grows : used (step mid k) ≤ used (each step (step mid k) (suc k) m)
+    = plan-used skip at m (suc k) (step mid k) (omega (arith, ownUnless-sameR skip at mid k .slots)) in
+    rw rest (lt-leb (used (each step (step mid k) (suc k) m) + owed (each step (step mid k) (suc k) m)) (length cs) (omega arith))

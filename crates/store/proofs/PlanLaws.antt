@@ -28,9 +28,11 @@ each-keeps P step zero k a h p = p
 each-keeps P step (suc n) k a h p =
     each-keeps P step n (suc k) (step a k) (λ x j l u q. h x j (omega arith) (omega arith) q) (h a k (omega arith) (omega arith) p)
 
-pub each-ext {ℓ} : {A : Type ℓ} (f g : A → ℕ → A) (n k : ℕ) (a : A) → ((x : A) (j : ℕ) → k ≤ j → f x j ≡ g x j) → each f a k n ≡ each g a k n
+-- steps that agree at the slots of the range
+pub each-ext {ℓ} : {A : Type ℓ} (f g : A → ℕ → A) (n k : ℕ) (a : A) → ((x : A) (j : ℕ) → k ≤ j → j < k + n → f x j ≡ g x j) → each f a k n ≡ each g a k n
 each-ext f g zero k a h = refl
-each-ext f g (suc n) k a h = ap (λ x. each f x (suc k) n) (h a k (le-refl k)) ∙ each-ext f g n (suc k) (g a k) (λ x j l. h x j (omega arith))
+each-ext f g (suc n) k a h =
+    ap (λ x. each f x (suc k) n) (h a k (le-refl k) (omega arith)) ∙ each-ext f g n (suc k) (g a k) (λ x j l u. h x j (omega arith) (omega arith))
 
 -- ---- one owned slot
 

@@ -205,7 +205,7 @@ module _ (skip : ℕ → Bool) (g : Geometry) (at : ℕ) (region : ℕ → Bool)
   later : (k n : ℕ) (ws ws′ m : List ℕ)
       → each (storeUnless skip g at region new (ownUnless skip at ws k) ws′) m (suc k) n ≡ each (storeUnless skip g at region new ws ws′) m (suc k) n
   unfolding storeAt
-  later k n ws ws′ m = each-ext _ _ n (suc k) m (λ x j l. rw (own-local skip at ws k (at + j) (λ (q : at + j ≡ at + k). omega arith)))
+  later k n ws ws′ m = each-ext _ _ n (suc k) m (λ x j l u. rw (own-local skip at ws k (at + j) (λ (q : at + j ≡ at + k). omega arith)))
 
   -- every slot of the plan
   pub wrote : (n k : ℕ) (ws m : List ℕ) → at + (k + n) ≤ length ws → length m ≡ g .N * g .B → InPool (g .N) ws → InPool (g .N) (each (ownUnless skip at) ws k n)

@@ -27,7 +27,8 @@ use Rattle.store.proofs.ViewLaws.{plan-before, own-local}
 use Rattle.store.proofs.FileLaws.{Sound, first-before, slots-fit}
 use Rattle.store.proofs.WriteLaws.{write-is}
 use Rattle.store.proofs.SoundLaws.{sound-facts}
-use Rattle.store.proofs.OwnLaws.{saved-pool, plan-write-is}
+use Rattle.store.proofs.SettleLaws.{saved-pool}
+use Rattle.store.proofs.OwnLaws.{plan-write-is}
 use Rattle.store.proofs.StoreLaws.{all-touched, write-bytes-is}
 
 -- ---- any edit: its two ways out

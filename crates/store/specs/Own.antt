@@ -1,21 +1,24 @@
 -- Steps of a plan in place. Contracts cite these records.
-use Prim.Native.Nat.{ℕ, _+_, _≤_, _<_}
+use Prim.Native.Nat.{ℕ, _+_, _-_, _≤_, _<_}
 use mathlib.Core.Path.{_≡_}
 use mathlib.Core.Bool.{Bool, true, false, cond, _||_}
 use mathlib.Core.List.{List}
 use lib.ListN.{length, getD, set, take, drop}
 use Rattle.xdr.specs.Bytes.{splice}
+use Rattle.store.specs.Geometry.{Geometry}
 use Rattle.store.specs.Store.{isHole}
 use Rattle.store.specs.Blocks.{isShared, lowestFree}
-use Rattle.store.specs.Edit.{each, owned, own}
+use Rattle.store.specs.Edit.{each, owned, own, ownUnless}
+use Rattle.store.specs.Deallocate.{whole, giveBack}
 use Rattle.store.specs.Plan.{Counted, Planned}
 
 -- a slot with word w that is to have an unshared block takes one (`owned` of Edit)
 abbrev pub takes : List ℕ → ℕ → Bool
 takes ws w = isHole w || isShared ws w
 
--- slot i takes a block, and none of n is free
-pub record NoneFree (ws : List ℕ) (i n : ℕ) : Type 0 where
+-- slot i, which is not skipped, takes a block, and none of n is free
+pub record NoneFree (skip : Bool) (ws : List ℕ) (i n : ℕ) : Type 0 where
+  pub asked : skip ≡ false
   pub wants : takes ws (getD ws i 0) ≡ true
   pub full : n ≤ lowestFree ws
 
@@ -24,21 +27,31 @@ pub record Undone (ws : List ℕ) (i : ℕ) (old after counts : List ℕ) : Type
   pub words-are : after ≡ splice ws i old
   pub counted : Counted after counts
 
--- slot i with an unshared block; not done, and nothing changed, where it takes one and none is free
-pub record SlotOwned (ws counts : List ℕ) (i : ℕ) (done : Bool) (after counts′ : List ℕ) : Type 0 where
-  pub words-are : after ≡ cond done (set ws i (owned ws (getD ws i 0))) ws
+-- slot i with an unshared block, or left where it is skipped; not done, and nothing changed, where it takes one and none is free
+pub record SlotOwned (skip : Bool) (ws counts : List ℕ) (i : ℕ) (done : Bool) (after counts′ : List ℕ) : Type 0 where
+  pub words-are : after ≡ cond done (cond skip ws (set ws i (owned ws (getD ws i 0)))) ws
   pub counted : Counted after counts′
   pub counts-same : done ≡ false → counts′ ≡ counts
-  pub stopped : done ≡ false → NoneFree ws i (length counts)
+  pub stopped : done ≡ false → NoneFree skip ws i (length counts)
 
--- an unshared block for the first `done` of the n slots from i on; fewer than n only where the next takes one and none is free
-pub record RangeOwned (ws : List ℕ) (i n done : ℕ) (after counts : List ℕ) : Type 0 where
+-- an unshared block for the first `done` of the n slots from `first` on, but for the skipped ones; fewer than n only where the next
+-- takes one and none is free
+pub record RangeOwned (skip : ℕ → Bool) (ws : List ℕ) (at first n done : ℕ) (after counts : List ℕ) : Type 0 where
   pub most : done ≤ n
-  pub words-are : after ≡ each (own i) ws 0 done
+  pub words-are : after ≡ each (ownUnless skip at) ws first done
   pub counted : Counted after counts
-  pub stopped : done < n → NoneFree after (i + done) (length counts)
+  pub stopped : done < n → NoneFree (skip (first + done)) after (at + (first + done)) (length counts)
 
 -- the plan of a WRITE into the n slots from i on, with their old words
 pub record WritePlanned (ws : List ℕ) (i n : ℕ) (done : Bool) (after counts old : List ℕ) : Type 0 where
   pub planned : Planned ws (each (own i) ws 0 n) done after counts
   pub saved : old ≡ take n (drop i ws)
+
+-- slots that a DEALLOCATE gives back or leaves a hole (`stays` of Deallocate), by the old words of the slots from `first` on
+unfoldable pub staysBy : Geometry → ℕ → ℕ → ℕ → ℕ → List ℕ → ℕ → Bool
+staysBy g size off end first old k = whole g size off end k || isHole (getD old (k - first) 0)
+
+-- the plan of a DEALLOCATE over the n slots of a file from `first` on, with their old words
+pub record DeallocatePlanned (g : Geometry) (ws : List ℕ) (at first n size off end : ℕ) (done : Bool) (after counts old : List ℕ) : Type 0 where
+  pub planned : Planned ws (each (ownUnless (staysBy g size off end first old) at) (each (giveBack at (whole g size off end)) ws first n) first n) done after counts
+  pub saved : old ≡ take n (drop (at + first) ws)

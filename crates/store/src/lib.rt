@@ -4,6 +4,7 @@ mod files;
 mod geometry;
 mod make;
 mod plan;
+mod plans;
 mod ranges;
 mod read;
 mod seek;

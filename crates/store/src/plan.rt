@@ -1,10 +1,12 @@
 // Plans in place: slots get unshared blocks one by one, the plan is judged against the pool, and one that does not fit is undone.
 ghost use mathlib.Core.Path.{_≡_};
+ghost use mathlib.Core.Bool.{false};
 ghost use Prim.Native.Nat.{suc, _+_, _%_, _<_, _≤_};
 ghost use lib.ListN.{length};
+ghost use Rattle.xdr.specs.Bytes.{splice};
 ghost use Rattle.store.specs.Store.{word};
 ghost use Rattle.store.specs.Tables.{InPool};
-ghost use Rattle.store.specs.Plan.{Counted, fitsPool};
+ghost use Rattle.store.specs.Plan.{Counted, fitsPool, Planned};
 ghost use Rattle.store.specs.Own.{Undone, SlotOwned, RangeOwned, WritePlanned};
 use crate::tally::lowest_free;
 use crate::tally::owed_slots;
@@ -43,6 +45,18 @@ pub fn undo(words: &mut [u32], counts: &mut [u32], i: usize, old: &[u32])
     }
 }
 
+// Answers whether planned words fit the pool. Where they don't, stores the words of old from slot i on.
+pub fn settle(words: &mut [u32], counts: &mut [u32], i: usize, old: &[u32]) -> bool
+    requires { ⌜ Counted (now words) (now counts) × ((i + length (now old) ≤ length (now words)) × InPool (length (now counts)) (now old)) ⌝ }
+    ensures { λ r. ⌜ Planned (splice (now (words .entry)) i (now (old .entry))) (now (words .entry)) r (now (words .exit)) (now (counts .exit)) ⌝ }
+{
+    if judge(words, counts) {
+        return true;
+    }
+    undo(words, counts, i, old);
+    false
+}
+
 // The word of a slot that takes block b in place of what word w says, and keeps its r.
 fn taken_word(b: usize, w: u32) -> u32
     requires { ⌜ b ≤ 65536 ⌝ }
@@ -54,7 +68,7 @@ fn taken_word(b: usize, w: u32) -> u32
 // Gives slot i an unshared block: the one it has, or the lowest free one. Answers false, and changes nothing, where there is none.
 pub fn own_slot(words: &mut [u32], counts: &mut [u32], i: usize) -> bool
     requires { ⌜ Counted (now words) (now counts) × (i < length (now words)) ⌝ }
-    ensures { λ r. ⌜ SlotOwned (now (words .entry)) (now (counts .entry)) i r (now (words .exit)) (now (counts .exit)) ⌝ }
+    ensures { λ r. ⌜ SlotOwned false (now (words .entry)) (now (counts .entry)) i r (now (words .exit)) (now (counts .exit)) ⌝ }
 {
     let w = words[i];
     if !takes_block(w, counts) {
@@ -71,7 +85,7 @@ pub fn own_slot(words: &mut [u32], counts: &mut [u32], i: usize) -> bool
 // Gives the n slots from i on unshared blocks, up to the first that finds none. Answers how many have one.
 pub fn own_range(words: &mut [u32], counts: &mut [u32], i: usize, n: usize) -> usize
     requires { ⌜ Counted (now words) (now counts) × (i + n ≤ length (now words)) ⌝ }
-    ensures { λ r. ⌜ RangeOwned (now (words .entry)) i n r (now (words .exit)) (now (counts .exit)) ⌝ }
+    ensures { λ r. ⌜ RangeOwned (λ k. false) (now (words .entry)) i 0 n r (now (words .exit)) (now (counts .exit)) ⌝ }
 {
     let mut k = 0;
     while k < n {
@@ -100,9 +114,5 @@ pub fn plan_write(
         undo(words, counts, i, old);
         return false;
     }
-    if !judge(words, counts) {
-        undo(words, counts, i, old);
-        return false;
-    }
-    true
+    settle(words, counts, i, old)
 }

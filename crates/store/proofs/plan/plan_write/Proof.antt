@@ -1,8 +1,7 @@
-use mathlib.Core.Path.{sym, _∙_}
+use mathlib.Core.Path.{refl}
 use native.Mathlib.Omega.{arith}
-use borrow.Author.Tests.{not-true, not-false}
 use borrow.Author.Needs.{needs}
-use Rattle.store.proofs.OwnLaws.{saved-pool, write-stopped, write-unfit, write-kept}
+use Rattle.store.proofs.SettleLaws.{saved-is, saved-pool, outside-refl, own-stopped, own-settled}
 use Rattle.store.proofs.plan.plan_write.Statement.{statement}
 use Rattle.store.proofs.plan.plan_write.Tie as tie
 
@@ -52,14 +51,15 @@ returns c =
     let k = o .before .before .before .before .before in
     let s = k .before .before .before .before .before .before .before in
     let a = s .args in
-    write-stopped _ (a .i) (a .n) _ (k .save-words .ensures) (s .pre .1 .0) _ _ _ (o .own-range .ensures) (t .if1 .taken) _ _ (u .undo .kept .1 .0) (u .undo .ensures)
+    record {
+      planned = own-stopped _ (a .i) (a .n) _ (k .save-words .ensures) (s .pre .1 .0) (outside-refl _ _ _) refl (o .own-range .ensures) (omega arith) (o .own-range .kept .0)
+          (t .if1 .taken) (u .undo .kept .1 .0) (u .undo .ensures);
+      saved = saved-is _ (a .i) (a .n) _ (k .save-words .ensures);
+    }
 
-judge-requires : tie.Need-judge-requires
-judge-requires c κs = search needs
-
-undo-requires-2 : tie.Need-undo-requires-2
-undo-requires-2 c κs =
-    let o = c .before .before .before .before .before .before .before .before .before .before .before .before in
+settle-requires : tie.Need-settle-requires
+settle-requires c κs =
+    let o = c .before .before .before .before .before .before .before .before in
     let k = o .before .before .before .before .before in
     let s = k .before .before .before .before .before .before .before in
     let a = s .args in
@@ -77,34 +77,16 @@ same-length-6 c = search needs
 returns-2 : tie.Need-returns-2
 returns-2 c =
     let u = c .before .before .before .before in
-    let f = u .before .before .before .before in
-    let j = f .before in
-    let t = j .before .before .before in
+    let t = u .before .before .before .before in
     let o = t .before .before .before .before .before in
     let k = o .before .before .before .before .before in
     let s = k .before .before .before .before .before .before .before in
     let a = s .args in
-    write-unfit _ (a .i) (a .n) _ (k .save-words .ensures) (s .pre .1 .0) _ _ _ (o .own-range .ensures) (t .if1 .left)
-    (sym (j .judge .ensures) ∙ not-true _ (f .if2 .taken)) _ _ (u .undo2 .kept .1 .0) (u .undo2 .ensures)
-
-same-length-7 : tie.Need-same-length-7
-same-length-7 c = search needs
-
-same-length-8 : tie.Need-same-length-8
-same-length-8 c = search needs
-
-same-length-9 : tie.Need-same-length-9
-same-length-9 c = search needs
-
-returns-3 : tie.Need-returns-3
-returns-3 c =
-    let j = c .before in
-    let t = j .before .before .before in
-    let o = t .before .before .before .before .before in
-    let k = o .before .before .before .before .before in
-    let s = k .before .before .before .before .before .before .before in
-    let a = s .args in
-    write-kept _ (a .i) (a .n) _ (k .save-words .ensures) (s .pre .1 .0) _ _ _ (o .own-range .ensures) (t .if1 .left) (sym (j .judge .ensures) ∙ not-false _ (c .if2 .left))
+    record {
+      planned = own-settled _ (a .i) (a .n) _ (k .save-words .ensures) (s .pre .1 .0) (outside-refl _ _ _) refl (o .own-range .ensures) (omega arith) (o .own-range .kept .0)
+          (t .if1 .left) (u .settle .ensures);
+      saved = saved-is _ (a .i) (a .n) _ (k .save-words .ensures);
+    }
 
 pub plan-write-spec : {M : Type 1} → statement M
 plan-write-spec =
@@ -122,13 +104,8 @@ plan-write-spec =
     same-length-2
     same-length-3
     returns
-    judge-requires
-    undo-requires-2
+    settle-requires
     same-length-4
     same-length-5
     same-length-6
-    returns-2
-    same-length-7
-    same-length-8
-    same-length-9
-    returns-3)
+    returns-2)

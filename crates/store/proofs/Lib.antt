@@ -30,3 +30,4 @@ pub mod ScanLaws
 pub mod EdgeLaws
 pub mod WriteEdit
 pub mod SettleLaws
+pub mod EditLaws

@@ -1,0 +1,36 @@
+-- From the survey to the edits: where a store was found sound, its table of holders serves every edit.
+use Prim.Native.Nat.{ℕ, _<_}
+use mathlib.Core.Path.{_≡_, sym, _∙_}
+use mathlib.Core.Bool.{true}
+use mathlib.Core.List.{List}
+use native.Mathlib.Omega.{arith}
+use lib.ListN.{length}
+use Rattle.store.specs.Geometry.{Geometry}
+use Rattle.store.specs.Store.{Store}
+use Rattle.store.specs.Survey.{Surveyed}
+use Rattle.store.specs.Plan.{Counted}
+use Rattle.store.specs.Tables.{Shaped, Tallied}
+use Rattle.store.specs.Sound.{sound}
+use Rattle.store.specs.Edits.{EditKnown}
+use Rattle.store.proofs.GeometryLaws.{good, block-pos, slots-all, lengths}
+use Rattle.store.proofs.SoundLaws.{sound-facts}
+use Rattle.store.proofs.SlotLaws.{number-shaped, number-sound}
+
+-- the words of a sound store, with a true table of one number for each block
+pub sound-counted : (g : Geometry) (st : Store) (counts : List ℕ) → Shaped g st → sound g st ≡ true → Tallied (st .words) counts → length counts ≡ g .N
+    → Counted (st .words) counts
+sound-counted g st counts h s t n =
+    let facts = sound-facts g (block-pos (good g (h .geometry))) st (h .lengths) s in
+    record {
+      table = t;
+      pool = rw n (facts .pool);
+      few = omega (arith, lengths g st (h .lengths) .slots, slots-all g (good g (h .geometry)))
+    }
+
+pub survey-known : (g : Geometry) (st : Store) (counts : List ℕ) (number usedIs owedIs f : ℕ) → Surveyed g st number usedIs owedIs counts
+    → number ≡ 0 → length counts ≡ g .N → f < g .F → EditKnown g st counts f
+survey-known g st counts number usedIs owedIs f r z n hf =
+    let e = sym (r .promise .number-is) ∙ z in
+    let h : Shaped g st = number-shaped g st (λ q. omega (arith, e, q)) (λ q. omega (arith, e, q)) in
+    let s : sound g st ≡ true = number-sound g st e in
+    record { shaped = h; sound = s; counted = sound-counted g st counts h s (r .table z) n; blocks = n; file = hf }

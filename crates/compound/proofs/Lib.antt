@@ -8,3 +8,4 @@ pub mod Points
 pub mod Examples
 pub mod WrongServers
 pub mod ReplyReads
+pub mod DecodeLaws

@@ -1,5 +1,6 @@
 pub mod Status
 pub mod Operation
+pub mod Decoded
 pub mod Run
 pub mod Serve
 pub mod Claim

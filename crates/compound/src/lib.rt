@@ -1,1 +1,3 @@
 // The compound runner: operations decoded, run and answered. The rules stand in specs/.
+mod decode;
+mod operation;

@@ -24,7 +24,7 @@ sound-counted g st counts h s t n =
     record {
       table = t;
       pool = rw n (facts .pool);
-      few = omega (arith, lengths g st (h .lengths) .slots, slots-all g (good g (h .geometry)))
+      few = omega (arith, lengths g st (h .lengths) .slots, slots-all g (good g (h .geometry)));
     }
 
 pub survey-known : (g : Geometry) (st : Store) (counts : List ℕ) (number usedIs owedIs f : ℕ) → Surveyed g st number usedIs owedIs counts

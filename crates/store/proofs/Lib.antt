@@ -31,3 +31,4 @@ pub mod EdgeLaws
 pub mod WriteEdit
 pub mod SettleLaws
 pub mod EditLaws
+pub mod CopyBytes

@@ -107,7 +107,7 @@ module _ (g : Geometry) (m : List ℕ) (old new : ℕ) (h : Backed g (length m) 
 
 module _ (g : Geometry) (m : List ℕ) (old new k off end a b : ℕ) (h : Touched g (length m) old new k off end)
     (ha : a ≡ max off (k * g .B)) (hb : b ≡ min end (k * g .B + g .B)) where
-  share : (byte : ℕ → ℕ)
+  pub share : (byte : ℕ → ℕ)
       → splice m (pred (new / 2) * g .B) (splice (slotBytes g m old) (a - k * g .B) (tab byte a (b - a))) ≡ storeSlot g (within off end) byte old new m k
   unfolding storeSlot
   share byte = ap (splice m (pred (new / 2) * g .B)) (sym whole)

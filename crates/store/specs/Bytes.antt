@@ -1,13 +1,15 @@
 -- Storing an edit's bytes, slot by slot. Contracts cite these.
-use Prim.Native.Nat.{ℕ, pred, _+_, _*_, _/_, _^_, _≤_, _<_}
+use Prim.Native.Nat.{ℕ, pred, _+_, _-_, _*_, _/_, _^_, _≤_, _<_}
 use mathlib.Core.Path.{_≡_}
 use mathlib.Core.Bool.{Bool, true, false, cond, _||_}
 use mathlib.Core.List.{List}
+use mathlib.Core.Logic.{_≢_}
 use lib.ListN.{length, getD}
 use Rattle.store.specs.Geometry.{Geometry, goodGeometry}
-use Rattle.store.specs.Store.{isHole}
+use Rattle.store.specs.Store.{isHole, wordOf}
 use Rattle.store.specs.Edit.{each, within, storeSlot}
 use Rattle.store.specs.Deallocate.{whole}
+use Rattle.store.specs.ReadCode.{Readable}
 
 -- the block of word w starts at r
 pub record Starts (g : Geometry) (w r : ℕ) : Type 0 where
@@ -59,3 +61,18 @@ pub record AllEdges (g : Geometry) (len : ℕ) (olds news : List ℕ) (first siz
 -- n of those slots, from the i-th on, in rising order
 unfoldable pub zeroSlots : Geometry → ℕ → ℕ → ℕ → ℕ → List ℕ → List ℕ → List ℕ → ℕ → ℕ → List ℕ
 zeroSlots g size off end first olds news m i n = each (λ x j. zeroEdge g size off end (getD olds j 0) (getD news j 0) x (first + j)) m i n
+
+-- ---- COPY: the bytes of file s from soff on, at the places from off up to end
+
+-- slot k is touched, the bytes can be read, and a page of `room` bytes takes a slot's share
+pub record SlotCopy (g : Geometry) (ws m : List ℕ) (s soff old new k off end room : ℕ) : Type 0 where
+  pub touched : Touched g (length m) old new k off end
+  pub readable : Readable g ws m s (soff + (end - off))
+  pub page : g .B ≤ room
+
+-- the slots from `first` on; no slot of file s holds a block that is written
+pub record AllCopies (g : Geometry) (ws m : List ℕ) (s soff : ℕ) (olds news : List ℕ) (first off end room : ℕ) : Type 0 where
+  pub touched : AllTouched g (length m) olds news first off end
+  pub readable : Readable g ws m s (soff + (end - off))
+  pub page : g .B ≤ room
+  pub apart : (j q : ℕ) → j < length olds → q < g .S → getD news j 0 / 2 ≢ wordOf g ws s q / 2

@@ -55,7 +55,7 @@ fn fresh_block(g: Geometry, mem: &mut [u8], old: u32, new: u32)
 }
 
 // The old slot's bytes in the block of `new`, with `src` over them from `lo` on.
-fn store_part(g: Geometry, mem: &mut [u8], old: u32, new: u32, lo: usize, src: &[u8])
+pub fn store_part(g: Geometry, mem: &mut [u8], old: u32, new: u32, lo: usize, src: &[u8])
     requires { ⌜ Backed (geometryOf g) (length (now mem)) old new × (lo + length (now src) ≤ geometryOf g .B) ⌝ }
     ensures { λ _. ⌜ now (mem .exit) ≡ splice (now (mem .entry)) (pred (new / 2) * geometryOf g .B)
         (splice (slotBytes (geometryOf g) (now (mem .entry)) old) lo (now (src .entry))) ⌝ }
@@ -78,7 +78,7 @@ fn zero_range(g: Geometry, mem: &mut [u8], old: u32, new: u32, lo: usize, n: usi
     xdr::put_zeros(&mut mem[at..end], lo, n);
 }
 
-fn later(a: usize, b: usize) -> usize
+pub fn later(a: usize, b: usize) -> usize
     ensures { λ r. ⌜ r ≡ max a b ⌝ }
 {
     if a < b {
@@ -87,7 +87,7 @@ fn later(a: usize, b: usize) -> usize
     a
 }
 
-fn earlier(a: usize, b: usize) -> usize
+pub fn earlier(a: usize, b: usize) -> usize
     ensures { λ r. ⌜ r ≡ min a b ⌝ }
 {
     if a < b {

@@ -1,5 +1,6 @@
 // The store: geometry, tables, soundness, counts, the edits and what is read. The rules stand in specs/.
 mod bytes;
+mod copy;
 mod files;
 mod geometry;
 mod make;

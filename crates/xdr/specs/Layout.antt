@@ -1,6 +1,6 @@
 -- A layout says how a value is written and how it is read. A record's layout is stated once, by the layouts of its fields, and serves
 -- both directions.
-use Prim.Native.Nat.{ℕ, _^_}
+use Prim.Native.Nat.{ℕ, _-_, _^_}
 use mathlib.Core.Bool.{Bool}
 use mathlib.Core.List.{List, _++_}
 use lib.Dec.{eqb}
@@ -33,9 +33,9 @@ bytes n = record { write = λ d. d; read = fixed n }
 abbrev pub opaqueData : ℕ → Layout (List ℕ)
 opaqueData limit = record { write = opaque; read = opaqueUpTo limit }
 
--- XDR's own bound on opaque data
+-- XDR's own bound on opaque data (RFC 4506, 4.10)
 abbrev pub anyLength : ℕ
-anyLength = 2 ^ 32
+anyLength = 2 ^ 32 - 1
 
 infixr 40 _then_
 -- one field after another

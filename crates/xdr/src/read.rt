@@ -45,6 +45,28 @@ impl Word {
     }
 }
 
+impl Long {
+    pub fn place(self) -> usize
+        ensures { λ r. ⌜ r ≡ stop (ofLong self) ⌝ }
+    {
+        match self {
+            Long::Value(_, c) => c.at,
+            Long::Fault(p) => p,
+        }
+    }
+}
+
+impl Bytes {
+    pub fn place(self) -> usize
+        ensures { λ r. ⌜ r ≡ stop (ofBytes self) ⌝ }
+    {
+        match self {
+            Bytes::Found(_, c) => c.at,
+            Bytes::Fault(p) => p,
+        }
+    }
+}
+
 impl Cursor {
     // The longest opaque data: XDR's own bound where a layout names none.
     pub const MAX_LENGTH: u32 = 4294967295;

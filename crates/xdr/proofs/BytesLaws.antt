@@ -1,11 +1,12 @@
 -- Laws on parts of lists: what a splice leaves at each place, and how splices join.
 use Prim.Native.Nat.{ℕ, zero, _+_, _-_, _≤_, _<_}
-use mathlib.Core.Path.{_≡_, sym, ap, _∙_}
+use mathlib.Core.Path.{_≡_, refl, sym, ap, _∙_}
 use mathlib.Core.List.{List, [], _∷_, _++_, append-assoc, append-nil}
 use native.Mathlib.Nat.{add-assoc, add-sub-of-le}
 use native.Mathlib.Numerals.{add-one, add-two, add-three}
 use native.Mathlib.Omega.{arith}
-use lib.ListN.{length, getD, set, take, drop, replicate, length-append, length-take, length-drop, List·getD-append, drop-of-length-le, length-replicate}
+use lib.ListN.{length, getD, set, take, drop, replicate, length-append, length-take, length-drop, List·getD-append, drop-of-length-le, length-replicate, length-set}
+use borrow.Author.Fill.{fill-none, fill-more}
 use lib.Seq.{getD-append-add, getD-take, getD-drop, length-take-le, take-all, take-nil, drop-drop, take-append-add, drop-append-add, sets-eq, take-append-seam, take-suc, take-suc-set}
 use borrow.Rule.Slice.PartMut as P
 use Rattle.xdr.specs.Bytes.{partOf, splice, Written}
@@ -101,10 +102,25 @@ copy-more dst src i h k e = rw (add-one i, take-suc-set dst i (getD src i 0) h, 
 pub copy-all : (dst src : List ℕ) (i : ℕ) → take i dst ≡ take i src → length dst ≤ i → length src ≤ i → dst ≡ src
 copy-all dst src i e h k = sym (take-all i dst h) ∙ e ∙ take-all i src k
 
-pub fill-all : (d d₀ : List ℕ) (i : ℕ) → d ≡ replicate i 0 ++ drop i d₀ → i ≤ length d₀ → length d₀ ≤ i → d ≡ replicate (length d₀) 0
-fill-all d d₀ i e h k =
-    let n : i ≡ length d₀ = omega arith in
-    e ∙ rw (drop-of-length-le d₀ k, append-nil, n)
+-- d is d₀ with its first i elements 0
+pub record Zeroing (d₀ d : List ℕ) (i : ℕ) : Type 0 where
+  pub within : i ≤ length d₀
+  pub cells : d ≡ replicate i 0 ++ drop i d₀
+  pub same : length d ≡ length d₀
+
+pub zeroing-start : (d : List ℕ) → Zeroing d d 0
+zeroing-start d = record { within = omega arith; cells = fill-none d 0; same = refl }
+
+pub zeroing-more : {d₀ d : List ℕ} {i : ℕ} → Zeroing d₀ d i → i < length d → Zeroing d₀ (set d i 0) (i + 1)
+zeroing-more {d₀} {d} {i} z h =
+    let l : i < length d₀ = omega (arith, z .same) in
+    record { within = omega arith; cells = ap (λ (x : List ℕ). set x i 0) (z .cells) ∙ fill-more i 0 d₀ l; same = length-set d i 0 ∙ z .same }
+
+pub zeroing-end : {d₀ d : List ℕ} {i : ℕ} → Zeroing d₀ d i → length d ≤ i → d ≡ replicate (length d₀) 0
+zeroing-end {d₀} {d} {i} z k =
+    let n : i ≡ length d₀ = omega (arith, z .within, z .same) in
+    let past : length d₀ ≤ i = omega arith in
+    z .cells ∙ rw (drop-of-length-le d₀ past, append-nil, n)
 
 -- a lent part that comes back zeroed
 pub put-zeroed : (a n : ℕ) (xs ys : List ℕ) → a + n ≤ length xs → ys ≡ replicate (length (take (a + n - a) (drop a xs))) 0

@@ -1,22 +1,19 @@
-use mathlib.Core.Path.{_≡_, refl, ap, _∙_}
-use mathlib.Core.List.{List, _++_}
-use Prim.Native.Nat.{ℕ, _≤_, _-_}
+use Prim.Native.Nat.{_-_}
+use lib.ListN.{length}
+use Rattle.xdr.proofs.BytesLaws.{Zeroing, zeroing-start, zeroing-more, zeroing-end}
 use native.Mathlib.Omega.{arith}
-use lib.ListN.{length, drop, set, replicate, length-set}
-use borrow.Author.Fill.{fill-none, fill-more}
 use borrow.Author.Needs.{needs}
-use Rattle.xdr.proofs.BytesLaws.{fill-all}
 use Rattle.store.proofs.make.zero_slots.Statement.{statement}
 use Rattle.store.proofs.make.zero_slots.Tie as tie
 
 abbrev Inv-loop : tie.InvT-loop
-Inv-loop dst₀ i₀ dst i = (i ≤ length dst₀) × ((dst ≡ replicate i 0 ++ drop i dst₀) × (length dst ≡ length dst₀))
+Inv-loop dst₀ i₀ dst i = Zeroing dst₀ dst i
 
 abbrev μ-loop : tie.MeasureT-loop
 μ-loop dst₀ i₀ dst i = length dst₀ - i
 
 loop-holds : tie.Need-loop-holds Inv-loop μ-loop
-loop-holds c = (omega arith, (fill-none _ 0, refl))
+loop-holds c = zeroing-start _
 
 mul-dst : tie.Need-mul-dst Inv-loop μ-loop
 mul-dst c = omega arith
@@ -31,16 +28,13 @@ loop-less : tie.Need-loop-less Inv-loop μ-loop
 loop-less c = search needs
 
 loop-again : tie.Need-loop-again Inv-loop μ-loop
-loop-again c =
-    let l = c .before in
-    let i = l .loop .i in
-    (omega arith, (ap (λ (x : List ℕ). set x i 0) (l .loop .inv .1 .0) ∙ fill-more i 0 _ (omega arith), simp length-set (l .loop .inv .1 .1)))
+loop-again c = zeroing-more (c .before .loop .inv) (c .loop-test .taken)
 
 same-length : tie.Need-same-length Inv-loop μ-loop
-same-length c = c .before .loop .inv .1 .1
+same-length c = c .before .loop .inv .same
 
 returns : tie.Need-returns Inv-loop μ-loop
-returns c = fill-all _ _ _ (c .before .loop .inv .1 .0) (c .before .loop .inv .0) (omega arith)
+returns c = zeroing-end (c .before .loop .inv) (c .loop-test .left)
 
 pub zero-slots-spec : {M : Type 1} → statement M
 zero-slots-spec =

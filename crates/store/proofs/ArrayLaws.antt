@@ -237,7 +237,7 @@ module _ (g : Geometry) (pos : 0 < g .B) (st : Store) (snd : Sound g st) (f : �
       go : Dec (off < end) → EditsArray g st (editDeallocate g st f off end) f (λ xs. arrayDeallocate xs off n)
       go (no z) = rw (le-leb end off (omega (arith, z))) (unedited g st f (λ xs. arrayDeallocate xs off n) (deallocate-none old off n (omega (arith, len, z))))
       go (yes l) =
-          let room′ = rw (deallocate-is g pos st snd f off end hf l (omega arith)) at room in
+          let room′ = rw (deallocate-is g st f off end l) at room in
           edited-array g st snd _ f _ (λ xs. arrayDeallocate xs off n) (deallocate-edited g pos st snd f off end hf l (omega arith) room′)
           (snd .fits f hf) (length-deallocate old off n (omega (arith, len)) ∙ len)
           (λ i h u. deallocate-bytes g pos st snd f off end hf l (omega arith) room′ i u

@@ -110,6 +110,12 @@ mix false false x y p q = p refl
 hole-zero : (g : Geometry) (m : List ℕ) (w j : ℕ) → isHole w ≡ true → slotByte g m w j ≡ 0
 hole-zero g m w j e = rw e
 
+pub deallocate-is : (g : Geometry) (st : Store) (f off end : ℕ) → off < end
+    → editDeallocate g st f off end
+    ≡ record { sizes = set (st .sizes) f (sizeOf st f); words = planDeallocate g (st .words) f (sizeOf st f) off end; mem = zeroBytes g st f off end }
+unfolding editDeallocate
+deallocate-is g st f off end some = rw (lt-leb end off some)
+
 module _ (g : Geometry) (pos : 0 < g .B) (st : Store) (snd : Sound g st) (f off end : ℕ) (hf : f < g .F) (some : off < end) (cut : end ≤ sizeOf st f) where
   size : ℕ
   size = sizeOf st f
@@ -128,10 +134,6 @@ module _ (g : Geometry) (pos : 0 < g .B) (st : Store) (snd : Sound g st) (f off 
 
   abbrev ws′ : List ℕ
   ws′ = planDeallocate g (st .words) f (sizeOf st f) off end
-
-  pub deallocate-is : editDeallocate g st f off end ≡ record { sizes = set (st .sizes) f (sizeOf st f); words = ws′; mem = zeroBytes g st f off end }
-  unfolding editDeallocate
-  deallocate-is = rw (lt-leb end off some)
 
   in-table : f * g .S + (firstSlot g off + slotCount g off end) ≤ length (st .words)
   in-table = omega (arith, slots-fit g pos off end some fits, snd .slots, mul-le-mul-right (g .S) hf)
@@ -174,7 +176,7 @@ module _ (g : Geometry) (pos : 0 < g .B) (st : Store) (snd : Sound g st) (f off 
   -- a reserved slot that is not given back stays reserved
   pub deallocate-r : (p : ℕ) → getD (st .words) p 0 % 2 ≡ 1 → ((q : ℕ) → p ≡ f * g .S + q → whole g (sizeOf st f) off end q ≡ true → ⊥)
       → getD (editDeallocate g st f off end .words) p 0 % 2 ≡ 1
-  deallocate-r p e d = rw deallocate-is (edge-r .r p ∙ go (given .each-slot p))
+  deallocate-r p e d = rw (deallocate-is g st f off end some) (edge-r .r p ∙ go (given .each-slot p))
     where
       go : Given (f * g .S) (whole g (sizeOf st f) off end) (st .words) ws₁ p → getD ws₁ p 0 % 2 ≡ 1
       go (kept k) = rw k e
@@ -284,11 +286,11 @@ module _ (g : Geometry) (pos : 0 < g .B) (st : Store) (snd : Sound g st) (f off 
 
     pub deallocate-bytes : (i : ℕ) → i < g .S * g .B → byteAt g (editDeallocate g st f off end) f i ≡ cond (within off end i) 0 (byteAt g st f i)
     unfolding after
-    deallocate-bytes i h = rw deallocate-is (bytes-after i h)
+    deallocate-bytes i h = rw (deallocate-is g st f off end some) (bytes-after i h)
 
     pub deallocate-edited : Edited g st (editDeallocate g st f off end) f (sizeOf st f)
     unfolding after
-    deallocate-edited = rw deallocate-is record {
+    deallocate-edited = rw (deallocate-is g st f off end some) record {
       files = length-set (st .sizes) f _;
       slots = edge-r .slots ∙ given .slots;
       bytes = edges .size;

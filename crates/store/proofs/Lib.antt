@@ -32,3 +32,4 @@ pub mod WriteEdit
 pub mod SettleLaws
 pub mod EditLaws
 pub mod CopyBytes
+pub mod CutEdit

@@ -78,7 +78,7 @@ module _ {g : Geometry} {st : Store} {cs : List ℕ} {f : ℕ} (k : EditKnown g 
   good-geometry : Good g
   good-geometry = good g (k .shaped .geometry)
 
-  sound-store : Sound g st
+  pub sound-store : Sound g st
   sound-store = sound-facts g (block-pos good-geometry) st (k .shaped .lengths) (k .sound)
 
   -- a WRITE of no bytes
@@ -134,10 +134,10 @@ module _ {g : Geometry} {st : Store} {cs : List ℕ} {f off end first n : ℕ} (
   plan-is : planWrite g (st .words) f off end ≡ each (own (slotAt g f first)) (st .words) 0 n
   plan-is = rw (k .count-is, k .first-is) (plan-write-is g (st .words) f off end)
 
-  cut : slotAt g f first + n - slotAt g f first ≡ n
+  pub cut : slotAt g f first + n - slotAt g f first ≡ n
   cut = add-sub-cancel-left (slotAt g f first) n
 
-  part-long : (ws : List ℕ) → length ws ≡ length (st .words) → length (take n (drop (slotAt g f first) ws)) ≡ n
+  pub part-long : (ws : List ℕ) → length ws ≡ length (st .words) → length (take n (drop (slotAt g f first) ws)) ≡ n
   part-long ws h = length-take-le n (drop (slotAt g f first) ws) (rw (length-drop (slotAt g f first) ws) (omega (arith, slots-inside)))
 
   edit-is : (new : ℕ → ℕ) → editWrite g st f off end new

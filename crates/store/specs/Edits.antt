@@ -6,7 +6,7 @@ use mathlib.Core.List.{List}
 use lib.ListN.{length, getD, set}
 use lib.Dec.{leb}
 use Rattle.store.specs.Geometry.{Geometry}
-use Rattle.store.specs.Store.{Store}
+use Rattle.store.specs.Store.{Store, sizeOf}
 use Rattle.store.specs.Blocks.{need}
 use Rattle.store.specs.Tables.{Shaped}
 use Rattle.store.specs.Sound.{sound}
@@ -57,3 +57,10 @@ pub record SlotsKnown (g : Geometry) (st : Store) (counts : List ℕ) (f off end
 pub record Finished (g : Geometry) (new : ℕ → ℕ) (first : ℕ) (olds news : List ℕ) (f off end : ℕ) (sizes mem sizes′ mem′ : List ℕ) : Type 0 where
   pub sizes-are : sizes′ ≡ set sizes f (max (getD sizes f 0) end)
   pub mem-is : mem′ ≡ storeSlots g (within off end) new first olds news mem 0 (length olds)
+
+-- ---- DEALLOCATE
+
+-- a region of file f that is already cut at the size; it may be empty
+pub record CutKnown (g : Geometry) (st : Store) (counts : List ℕ) (f end : ℕ) : Type 0 where
+  pub known : EditKnown g st counts f
+  pub cut : end ≤ sizeOf st f

@@ -1,6 +1,7 @@
 // The store: geometry, tables, soundness, counts, the edits and what is read. The rules stand in specs/.
 mod bytes;
 mod copy;
+mod deallocate;
 mod files;
 mod geometry;
 mod make;
@@ -15,6 +16,7 @@ mod view;
 mod words;
 mod write;
 
+pub use deallocate::deallocate_file;
 pub use geometry::Geometry;
 pub use make::make_empty;
 pub use survey::Counts;

@@ -1,0 +1,122 @@
+use mathlib.Core.Path.{refl}
+use native.Mathlib.Omega.{arith}
+use Rattle.store.proofs.WriteEdit.{region-room, slots-inside, file-inside}
+use Rattle.store.proofs.CutEdit.{cut-refused, cut-touched, cut-done}
+use borrow.Author.Needs.{needs}
+use Rattle.store.proofs.deallocate.cut_range.Statement.{statement}
+use Rattle.store.proofs.deallocate.cut_range.Tie as tie
+
+mul-at : tie.Need-mul-at
+mul-at c =
+    let s = c .before .before .before .before .before .before in
+    omega (arith, slots-inside (s .pre))
+
+add-i : tie.Need-add-i
+add-i c =
+    let s = c .before .before .before .before .before .before in
+    omega (arith, slots-inside (s .pre))
+
+add-last : tie.Need-add-last
+add-last c =
+    let s = c .before .before .before .before .before .before in
+    omega (arith, slots-inside (s .pre))
+
+mul-size : tie.Need-mul-size
+mul-size c =
+    let s = c .before .before .before .before .before .before in
+    omega (arith, file-inside (s .pre))
+
+shared-slice-read-size : tie.Need-shared-slice-read-size
+shared-slice-read-size c =
+    let s = c .before .before .before .before .before .before .before in
+    file-inside (s .pre)
+
+plan-deallocate-requires : tie.Need-plan-deallocate-requires
+plan-deallocate-requires c κs =
+    let s = c .before .before .before .before .before .before .before .before .before .before in
+    let k = s .pre in
+    (k .region .known .counted, (slots-inside k, (k .region .known .shaped .geometry, (omega (arith, region-room (k .region) .slots, k .first-is, k .count-is), refl))))
+
+same-length : tie.Need-same-length
+same-length c = search needs
+
+same-length-2 : tie.Need-same-length-2
+same-length-2 c = search needs
+
+same-length-3 : tie.Need-same-length-3
+same-length-3 c = search needs
+
+returns : tie.Need-returns
+returns c =
+    let k = c .before .before .before .before .before .before .before in
+    let s = k .before .before .before .before .before .before .before .before .before .before .before in
+    cut-refused (s .pre) (k .plan-deallocate .kept .1 .1 .0) (k .plan-deallocate .ensures) (c .if1 .taken)
+
+mul-zero-edges : tie.Need-mul-zero-edges
+mul-zero-edges c =
+    let s = c .before .before .before .before .before .before .before .before .before .before .before .before .before .before .before .before .before .before .before .before in
+    omega (arith, slots-inside (s .pre))
+
+sub-zero-edges : tie.Need-sub-zero-edges
+sub-zero-edges c = search needs
+
+part-zero-edges-start : tie.Need-part-zero-edges-start
+part-zero-edges-start c = search needs
+
+part-zero-edges-end : tie.Need-part-zero-edges-end
+part-zero-edges-end c =
+    let k = c .before .before .before .before .before .before .before .before .before .before in
+    let s = k .before .before .before .before .before .before .before .before .before .before .before in
+    omega (arith, slots-inside (s .pre), k .plan-deallocate .kept .1 .0)
+
+zero-edges-requires : tie.Need-zero-edges-requires
+zero-edges-requires c κs =
+    let t = c .before .before .before .before in
+    let k = t .before .before .before .before .before .before .before in
+    let s = k .before .before .before .before .before .before .before .before .before .before .before in
+    cut-touched (s .pre) (k .plan-deallocate .kept .1 .1 .0) (k .plan-deallocate .ensures) (t .if1 .left) (k .plan-deallocate .kept .1 .0)
+
+same-length-4 : tie.Need-same-length-4
+same-length-4 c = search needs
+
+same-length-5 : tie.Need-same-length-5
+same-length-5 c = search needs
+
+same-length-6 : tie.Need-same-length-6
+same-length-6 c = search needs
+
+same-length-7 : tie.Need-same-length-7
+same-length-7 c = search needs
+
+returns-2 : tie.Need-returns-2
+returns-2 c =
+    let z = c .before .before in
+    let t = z .before .before .before .before .before in
+    let k = t .before .before .before .before .before .before .before in
+    let s = k .before .before .before .before .before .before .before .before .before .before .before in
+    cut-done (s .pre) (k .plan-deallocate .kept .1 .1 .0) (k .plan-deallocate .ensures) (t .if1 .left) (k .plan-deallocate .kept .1 .0) (z .zero-edges .ensures)
+
+pub cut-range-spec : {M : Type 1} → statement M
+cut-range-spec =
+    tie.close
+    (tie.spec
+    mul-at
+    add-i
+    add-last
+    mul-size
+    shared-slice-read-size
+    plan-deallocate-requires
+    same-length
+    same-length-2
+    same-length-3
+    returns
+    mul-zero-edges
+    sub-zero-edges
+    part-zero-edges-start
+    part-zero-edges-end
+    zero-edges-requires
+    same-length-4
+    same-length-5
+    same-length-6
+    same-length-7
+    returns-2)

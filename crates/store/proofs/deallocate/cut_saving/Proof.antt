@@ -1,0 +1,80 @@
+use mathlib.Core.Path.{refl, sym}
+use native.Mathlib.Omega.{arith}
+use lib.Seq.{length-take-le}
+use Rattle.store.proofs.WriteEdit.{region-room}
+use borrow.Author.Needs.{needs}
+use Rattle.store.proofs.deallocate.cut_saving.Statement.{statement}
+use Rattle.store.proofs.deallocate.cut_saving.Tie as tie
+
+div-first : tie.Need-div-first
+div-first c =
+    let s = c .before .before .before .before .before .before in
+    omega (arith, region-room (s .pre .0))
+
+sub-n : tie.Need-sub-n
+sub-n c =
+    let s = c .before .before .before .before .before .before .before in
+    omega (arith, region-room (s .pre .0))
+
+add-n : tie.Need-add-n
+add-n c =
+    let s = c .before .before .before .before .before .before .before in
+    omega (arith, region-room (s .pre .0))
+
+div-n : tie.Need-div-n
+div-n c =
+    let s = c .before .before .before .before .before .before .before .before in
+    omega (arith, region-room (s .pre .0))
+
+sub-n-2 : tie.Need-sub-n-2
+sub-n-2 c =
+    let s = c .before .before .before .before .before .before .before .before in
+    omega (arith, region-room (s .pre .0))
+
+slice-relend-prefix-cut-range : tie.Need-slice-relend-prefix-cut-range
+slice-relend-prefix-cut-range c =
+    let s = c .before .before .before .before .before .before .before .before .before .before .before in
+    omega (arith, region-room (s .pre .0))
+
+slice-aggregate-cut-range : tie.Need-slice-aggregate-cut-range
+slice-aggregate-cut-range c =
+    let s = c .before .before .before .before .before .before .before .before .before .before .before .before in
+    sym (length-take-le _ _ (omega (arith, region-room (s .pre .0), s .pre .1)))
+
+cut-range-requires : tie.Need-cut-range-requires
+cut-range-requires c κs =
+    let s = c .before .before .before .before .before .before .before .before .before .before .before .before in
+    record { region = s .pre .0; first-is = refl; count-is = length-take-le _ _ (omega (arith, region-room (s .pre .0), s .pre .1)) }
+
+same-length : tie.Need-same-length
+same-length c = search needs
+
+same-length-2 : tie.Need-same-length-2
+same-length-2 c = search needs
+
+same-length-3 : tie.Need-same-length-3
+same-length-3 c = search needs
+
+same-length-4 : tie.Need-same-length-4
+same-length-4 c = search needs
+
+returns : tie.Need-returns
+returns c = search needs
+
+pub cut-saving-spec : {M : Type 1} → statement M
+cut-saving-spec =
+    tie.close
+    (tie.spec
+    div-first
+    sub-n
+    add-n
+    div-n
+    sub-n-2
+    slice-relend-prefix-cut-range
+    slice-aggregate-cut-range
+    cut-range-requires
+    same-length
+    same-length-2
+    same-length-3
+    same-length-4
+    returns)

@@ -1,0 +1,118 @@
+// DEALLOCATE: the plan of its slots, and where the plan fits the pool the bytes. The size stays.
+ghost use Prim.Native.Nat.{_≤_};
+ghost use lib.ListN.{length};
+ghost use Rattle.store.specs.Geometry.{geometryOf};
+ghost use Rattle.store.specs.Deallocate.{editDeallocate};
+ghost use Rattle.store.specs.Edits.{EditPromise, CutKnown, RegionKnown, SlotsKnown};
+use crate::bytes::zero_edges;
+use crate::geometry::Geometry;
+use crate::plans::plan_deallocate;
+
+// A DEALLOCATE in the slots from `first` on, as many as `old` has words to save.
+fn cut_range(
+    g: Geometry,
+    sizes: &[u64],
+    words: &mut [u32],
+    mem: &mut [u8],
+    counts: &mut [u32],
+    f: usize,
+    first: usize,
+    off: usize,
+    end: usize,
+    old: &mut [u32],
+) -> bool
+    requires { ⌜ SlotsKnown (geometryOf g) (record { sizes = now sizes; words = now words; mem = now mem }) (now counts)
+        f off end first (length (now old)) ⌝ }
+    ensures { λ r. ⌜ EditPromise (geometryOf g) (record { sizes = now (sizes .entry); words = now (words .entry); mem = now (mem .entry) })
+        (editDeallocate (geometryOf g) (record { sizes = now (sizes .entry); words = now (words .entry); mem = now (mem .entry) }) f off end)
+        r (record { sizes = now (sizes .entry); words = now (words .exit); mem = now (mem .exit) }) (now (counts .exit)) ⌝ }
+{
+    let at = f * g.slots;
+    let i = at + first;
+    let n = old.len();
+    let last = i + n;
+    let size = sizes[f] as usize;
+    if !plan_deallocate(g, words, counts, at, first, n, size, off, end, old) {
+        return false;
+    }
+    zero_edges(g, mem, old, &words[i..last], first, size, off, end);
+    true
+}
+
+// A DEALLOCATE of a region that has a byte. `saved` has a word for each slot of a file.
+fn cut_saving(
+    g: Geometry,
+    sizes: &[u64],
+    words: &mut [u32],
+    mem: &mut [u8],
+    counts: &mut [u32],
+    f: usize,
+    off: usize,
+    end: usize,
+    saved: &mut [u32],
+) -> bool
+    requires { ⌜ RegionKnown (geometryOf g) (record { sizes = now sizes; words = now words; mem = now mem }) (now counts)
+        f off end × (geometryOf g .S ≤ length (now saved)) ⌝ }
+    ensures { λ r. ⌜ EditPromise (geometryOf g) (record { sizes = now (sizes .entry); words = now (words .entry); mem = now (mem .entry) })
+        (editDeallocate (geometryOf g) (record { sizes = now (sizes .entry); words = now (words .entry); mem = now (mem .entry) }) f off end)
+        r (record { sizes = now (sizes .entry); words = now (words .exit); mem = now (mem .exit) }) (now (counts .exit)) ⌝ }
+{
+    let first = off / g.block_size;
+    let n = (end + (g.block_size - 1)) / g.block_size - first;
+    cut_range(
+        g,
+        sizes,
+        words,
+        mem,
+        counts,
+        f,
+        first,
+        off,
+        end,
+        &mut saved[..n],
+    )
+}
+
+// The same; it owns the words to save and only lends them.
+fn cut_some(
+    g: Geometry,
+    sizes: &[u64],
+    words: &mut [u32],
+    mem: &mut [u8],
+    counts: &mut [u32],
+    f: usize,
+    off: usize,
+    end: usize,
+) -> bool
+    requires { ⌜ RegionKnown (geometryOf g) (record { sizes = now sizes; words = now words; mem = now mem }) (now counts)
+        f off end ⌝ }
+    ensures { λ r. ⌜ EditPromise (geometryOf g) (record { sizes = now (sizes .entry); words = now (words .entry); mem = now (mem .entry) })
+        (editDeallocate (geometryOf g) (record { sizes = now (sizes .entry); words = now (words .entry); mem = now (mem .entry) }) f off end)
+        r (record { sizes = now (sizes .entry); words = now (words .exit); mem = now (mem .exit) }) (now (counts .exit)) ⌝ }
+{
+    let mut saved = [0u32; 1024];
+    cut_saving(g, sizes, words, mem, counts, f, off, end, &mut saved)
+}
+
+// Makes the bytes of file f from `off` up to `end`, at most its size, zero. Answers false, and changes nothing, exactly if the
+// store would then need more blocks than there are.
+pub fn deallocate_file(
+    g: Geometry,
+    sizes: &[u64],
+    words: &mut [u32],
+    mem: &mut [u8],
+    counts: &mut [u32],
+    f: usize,
+    off: usize,
+    end: usize,
+) -> bool
+    requires { ⌜ CutKnown (geometryOf g) (record { sizes = now sizes; words = now words; mem = now mem }) (now counts) f end ⌝ }
+    ensures { λ r. ⌜ EditPromise (geometryOf g) (record { sizes = now (sizes .entry); words = now (words .entry); mem = now (mem .entry) })
+        (editDeallocate (geometryOf g) (record { sizes = now (sizes .entry); words = now (words .entry); mem = now (mem .entry) }) f off end)
+        r (record { sizes = now (sizes .entry); words = now (words .exit); mem = now (mem .exit) }) (now (counts .exit)) ⌝ }
+{
+    if end <= off {
+        return true;
+    }
+    cut_some(g, sizes, words, mem, counts, f, off, end)
+}

@@ -33,3 +33,4 @@ pub mod SettleLaws
 pub mod EditLaws
 pub mod CopyBytes
 pub mod CutEdit
+pub mod PlanEdits

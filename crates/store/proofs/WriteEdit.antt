@@ -1,4 +1,4 @@
--- WRITE in place: what its steps ask, and its ways out.
+-- Edits in place after their plan; WRITE: what its steps ask, and its ways out.
 use Prim.Native.Nat.{ℕ, zero, suc, _+_, _-_, _*_, _/_, _≤_, _<_, max}
 use mathlib.Core.Path.{_≡_, refl, sym, ap, _∙_}
 use mathlib.Core.Bool.{Bool, true, false, not}
@@ -15,7 +15,7 @@ use Rattle.store.specs.Store.{Store, sizeOf}
 use Rattle.store.specs.Blocks.{need}
 use Rattle.store.specs.Tables.{InPool}
 use Rattle.store.specs.Sound.{ceilDiv}
-use Rattle.store.specs.Plan.{Counted}
+use Rattle.store.specs.Plan.{Counted, Planned}
 use Rattle.store.specs.Own.{WritePlanned}
 use Rattle.store.specs.Edit.{each, within, firstSlot, slotCount, owned, own}
 use Rattle.store.specs.Write.{planWrite, writeBytes, editWrite}
@@ -75,16 +75,37 @@ plan-held at (suc n) k ws h j l u = go (ℕ-discrete j k) (plan-held at n (suc k
 -- ---- what is known where an edit is called
 
 module _ {g : Geometry} {st : Store} {cs : List ℕ} {f : ℕ} (k : EditKnown g st cs f) where
-  good-geometry : Good g
+  pub good-geometry : Good g
   good-geometry = good g (k .shaped .geometry)
 
   pub sound-store : Sound g st
   sound-store = sound-facts g (block-pos good-geometry) st (k .shaped .lengths) (k .sound)
 
+  -- an edit that plans no change
+  pub edit-none : (planned : Store) → planned ≡ st → EditPromise g st planned true st cs
+  edit-none planned e = rw e (edit-done g st st st cs (le-leb (need st) (g .N) (sound-store .room)) refl refl refl (k .counted))
+
   -- a WRITE of no bytes
   pub write-empty : (off len : ℕ) (new : ℕ → ℕ) → len ≡ 0 → EditPromise g st (editWrite g st f off (off + len) new) true st cs
   unfolding editWrite
-  write-empty off len new e = rw (le-leb (off + len) off (omega arith)) (edit-done g st st st cs (le-leb (need st) (g .N) (sound-store .room)) refl refl refl (k .counted))
+  write-empty off len new e = edit-none _ (rw (le-leb (off + len) off (omega arith)))
+
+  -- after the plan of an edit that would leave `sizes`, `planned` and `mem`
+  module _ {edit : Store} {sizes planned mem : List ℕ} (is : edit ≡ record { sizes = sizes; words = planned; mem = mem })
+      {done : Bool} {after cs′ : List ℕ} (same : length cs′ ≡ length cs) (p : Planned (st .words) planned done after cs′) where
+    judged-is : leb (need edit) (g .N) ≡ done
+    judged-is = rw (is, ← k .blocks, ← same) (sym (p .answer))
+
+    pub plan-refused : not done ≡ true → EditPromise g st edit false (record { sizes = st .sizes; words = after; mem = st .mem }) cs′
+    plan-refused e =
+        let no : done ≡ false = not-true done e in
+        edit-refused g st edit _ cs′ (judged-is ∙ no) refl (rw (← p .answer, no) at (p .words-are)) refl (p .counted)
+
+    pub plan-done : not done ≡ false → {sizes′ mem′ : List ℕ} → sizes′ ≡ sizes → mem′ ≡ mem
+        → EditPromise g st edit true (record { sizes = sizes′; words = after; mem = mem′ }) cs′
+    plan-done e s m =
+        let yes : done ≡ true = not-false done e in
+        edit-done g st edit _ cs′ (judged-is ∙ yes) (rw is s) (rw is (rw (← p .answer, yes) at (p .words-are))) (rw is m) (p .counted)
 
 -- numbers that the code computes
 pub record RegionRoom (g : Geometry) (off end : ℕ) : Type 0 where
@@ -141,18 +162,13 @@ module _ {g : Geometry} {st : Store} {cs : List ℕ} {f off end first n : ℕ} (
   part-long ws h = length-take-le n (drop (slotAt g f first) ws) (rw (length-drop (slotAt g f first) ws) (omega (arith, slots-inside)))
 
   edit-is : (new : ℕ → ℕ) → editWrite g st f off end new
-      ≡ record { sizes = set (st .sizes) f (max (sizeOf st f) end); words = planWrite g (st .words) f off end; mem = writeBytes g st f off end new }
-  edit-is = write-is g (region-room (k .region) .pos) st snd f off end (known .file) (k .region .some) (k .region .fits)
+      ≡ record { sizes = set (st .sizes) f (max (sizeOf st f) end); words = each (own (slotAt g f first)) (st .words) 0 n; mem = writeBytes g st f off end new }
+  edit-is new = rw (← plan-is) (write-is g (region-room (k .region) .pos) st snd f off end (known .file) (k .region .some) (k .region .fits) new)
 
   -- after the plan
   module _ {done : Bool} {after cs′ old : List ℕ} (same : length cs′ ≡ length cs) (p : WritePlanned (st .words) (slotAt g f first) n done after cs′ old) where
-    judged-is : (new : ℕ → ℕ) → leb (need (editWrite g st f off end new)) (g .N) ≡ done
-    judged-is new = rw (edit-is new, plan-is, ← known .blocks, ← same) (sym (p .planned .answer))
-
     pub write-refused : (new : ℕ → ℕ) → not done ≡ true → EditPromise g st (editWrite g st f off end new) false (record { sizes = st .sizes; words = after; mem = st .mem }) cs′
-    write-refused new e =
-        let no : done ≡ false = not-true done e in
-        edit-refused g st (editWrite g st f off end new) _ cs′ (judged-is new ∙ no) refl (rw (← p .planned .answer, no) at (p .planned .words-are)) refl (p .planned .counted)
+    write-refused new = plan-refused known (edit-is new) same (p .planned)
 
     module _ (e : not done ≡ false) where
       after-is : after ≡ each (own (slotAt g f first)) (st .words) 0 n
@@ -181,8 +197,7 @@ module _ {g : Geometry} {st : Store} {cs : List ℕ} {f off end first n : ℕ} (
           → Finished g new first old (lent after (slotAt g f first) n) f off end (st .sizes) (st .mem) sizes′ mem′
           → EditPromise g st (editWrite g st f off end new) true (record { sizes = sizes′; words = after; mem = mem′ }) cs′
       write-done new {sizes′} {mem′} fin =
-          edit-done g st (editWrite g st f off end new) _ cs′ (judged-is new ∙ not-false done e)
-          (rw (edit-is new) (fin .sizes-are)) (rw (edit-is new) (after-is ∙ sym plan-is)) (rw (edit-is new) (fin .mem-is ∙ bytes-are)) (p .planned .counted)
+          plan-done known (edit-is new) same (p .planned) e (fin .sizes-are) (fin .mem-is ∙ bytes-are)
         where
           bytes-are : storeSlots g (within off end) new first old (lent after (slotAt g f first) n) (st .mem) 0 (length old)
               ≡ writeBytes g st f off end new

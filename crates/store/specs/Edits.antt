@@ -1,5 +1,5 @@
 -- The promise of an edit, and what is known where it is called. Contracts cite these records.
-use Prim.Native.Nat.{ℕ, _+_, _*_, _≤_, _<_, max}
+use Prim.Native.Nat.{ℕ, _+_, _*_, _%_, _≤_, _<_, max}
 use mathlib.Core.Path.{_≡_}
 use mathlib.Core.Bool.{Bool, true, cond}
 use mathlib.Core.List.{List}
@@ -64,3 +64,15 @@ pub record Finished (g : Geometry) (new : ℕ → ℕ) (first : ℕ) (olds news 
 pub record CutKnown (g : Geometry) (st : Store) (counts : List ℕ) (f end : ℕ) : Type 0 where
   pub known : EditKnown g st counts f
   pub cut : end ≤ sizeOf st f
+
+-- ---- CLONE
+
+-- a CLONE of n bytes of file s at soff to file f at off: both are multiples of B, and the bytes lie inside the source; one of no
+-- bytes may go to any multiple of B
+pub record CloneKnown (g : Geometry) (st : Store) (counts : List ℕ) (s f soff off n : ℕ) : Type 0 where
+  pub known : EditKnown g st counts f
+  pub source : s < g .F
+  pub source-even : soff % g .B ≡ 0
+  pub target-even : off % g .B ≡ 0
+  pub inside : soff + n ≤ sizeOf st s
+  pub fits : 0 < n → off + n ≤ g .S * g .B

@@ -1,5 +1,7 @@
 // The store: geometry, tables, soundness, counts, the edits and what is read. The rules stand in specs/.
+mod allocate;
 mod bytes;
+mod clone;
 mod copy;
 mod deallocate;
 mod files;
@@ -16,6 +18,8 @@ mod view;
 mod words;
 mod write;
 
+pub use allocate::allocate_file;
+pub use clone::clone_file;
 pub use deallocate::deallocate_file;
 pub use geometry::Geometry;
 pub use make::make_empty;

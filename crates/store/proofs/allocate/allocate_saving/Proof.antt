@@ -1,0 +1,113 @@
+use mathlib.Core.Path.{sym}
+use native.Mathlib.Omega.{arith}
+use lib.Seq.{length-take-le}
+use Rattle.store.proofs.WriteEdit.{region-room}
+use Rattle.store.proofs.PlanEdits.{region-inside, region-file, allocate-refused, allocate-done}
+use borrow.Author.Needs.{needs}
+use Rattle.store.proofs.allocate.allocate_saving.Statement.{statement}
+use Rattle.store.proofs.allocate.allocate_saving.Tie as tie
+
+add-end : tie.Need-add-end
+add-end c = let s = c .before .before .before .before .before in omega (arith, region-room (s .pre .0))
+
+div-first : tie.Need-div-first
+div-first c = let s = c .before .before .before .before .before .before in omega (arith, region-room (s .pre .0))
+
+sub-count : tie.Need-sub-count
+sub-count c = let s = c .before .before .before .before .before .before .before in omega (arith, region-room (s .pre .0))
+
+add-count : tie.Need-add-count
+add-count c = let s = c .before .before .before .before .before .before .before in omega (arith, region-room (s .pre .0))
+
+div-count : tie.Need-div-count
+div-count c = let s = c .before .before .before .before .before .before .before .before in omega (arith, region-room (s .pre .0))
+
+sub-count-2 : tie.Need-sub-count-2
+sub-count-2 c = let s = c .before .before .before .before .before .before .before .before in omega (arith, region-room (s .pre .0))
+
+mul-i : tie.Need-mul-i
+mul-i c = let s = c .before .before .before .before .before .before .before .before .before in omega (arith, region-inside (s .pre .0))
+
+add-i : tie.Need-add-i
+add-i c = let s = c .before .before .before .before .before .before .before .before .before in omega (arith, region-inside (s .pre .0))
+
+slice-relend-prefix-plan-allocate : tie.Need-slice-relend-prefix-plan-allocate
+slice-relend-prefix-plan-allocate c =
+    let s = c .before .before .before .before .before .before .before .before .before .before .before in
+    omega (arith, region-room (s .pre .0), s .pre .1)
+
+slice-aggregate-plan-allocate : tie.Need-slice-aggregate-plan-allocate
+slice-aggregate-plan-allocate c =
+    let s = c .before .before .before .before .before .before .before .before .before .before .before .before in
+    sym (length-take-le _ _ (omega (arith, region-room (s .pre .0), s .pre .1)))
+
+plan-allocate-requires : tie.Need-plan-allocate-requires
+plan-allocate-requires c κs =
+    let s = c .before .before .before .before .before .before .before .before .before .before .before .before in
+    (s .pre .0 .known .counted, (region-inside (s .pre .0), length-take-le _ _ (omega (arith, region-room (s .pre .0), s .pre .1))))
+
+same-length : tie.Need-same-length
+same-length c = search needs
+
+same-length-2 : tie.Need-same-length-2
+same-length-2 c = search needs
+
+same-length-3 : tie.Need-same-length-3
+same-length-3 c = search needs
+
+returns : tie.Need-returns
+returns c =
+    let k = c .before .before .before .before .before .before .before in
+    let s = k .before .before .before .before .before .before .before .before .before .before .before .before .before in
+    allocate-refused (s .pre .0) (k .plan-allocate .kept .1 .0) (k .plan-allocate .ensures) (c .if1 .taken)
+
+grow-requires : tie.Need-grow-requires
+grow-requires c κs =
+    let s = c .before .before .before .before .before .before .before .before .before .before .before .before .before .before .before .before .before .before .before .before .before in
+    region-file (s .pre .0)
+
+same-length-4 : tie.Need-same-length-4
+same-length-4 c = search needs
+
+same-length-5 : tie.Need-same-length-5
+same-length-5 c = search needs
+
+same-length-6 : tie.Need-same-length-6
+same-length-6 c = search needs
+
+same-length-7 : tie.Need-same-length-7
+same-length-7 c = search needs
+
+returns-2 : tie.Need-returns-2
+returns-2 c =
+    let d = c .before .before in
+    let t = d .before .before in
+    let k = t .before .before .before .before .before .before .before in
+    let s = k .before .before .before .before .before .before .before .before .before .before .before .before .before in
+    allocate-done (s .pre .0) (k .plan-allocate .kept .1 .0) (k .plan-allocate .ensures) (t .if1 .left) (d .grow .ensures)
+
+pub allocate-saving-spec : {M : Type 1} → statement M
+allocate-saving-spec =
+    tie.close
+    (tie.spec
+    add-end
+    div-first
+    sub-count
+    add-count
+    div-count
+    sub-count-2
+    mul-i
+    add-i
+    slice-relend-prefix-plan-allocate
+    slice-aggregate-plan-allocate
+    plan-allocate-requires
+    same-length
+    same-length-2
+    same-length-3
+    returns
+    grow-requires
+    same-length-4
+    same-length-5
+    same-length-6
+    same-length-7
+    returns-2)

@@ -1,0 +1,60 @@
+// ALLOCATE: the plan of its slots, and where the plan fits the pool the size. No byte of memory changes.
+ghost use Prim.Native.Nat.{_+_, _≤_};
+ghost use lib.ListN.{length};
+ghost use Rattle.store.specs.Geometry.{geometryOf};
+ghost use Rattle.store.specs.Allocate.{editAllocate};
+ghost use Rattle.store.specs.Edits.{EditPromise, RegionKnown};
+use crate::geometry::Geometry;
+use crate::plans::plan_allocate;
+use crate::write::grow;
+
+// `saved` has a word for each slot of a file.
+fn allocate_saving(
+    g: Geometry,
+    sizes: &mut [u64],
+    words: &mut [u32],
+    counts: &mut [u32],
+    mem: &[u8],
+    f: usize,
+    off: usize,
+    n: usize,
+    saved: &mut [u32],
+) -> bool
+    requires { ⌜ RegionKnown (geometryOf g) (record { sizes = now sizes; words = now words; mem = now mem }) (now counts)
+        f off (off + n) × (geometryOf g .S ≤ length (now saved)) ⌝ }
+    ensures { λ r. ⌜ EditPromise (geometryOf g) (record { sizes = now (sizes .entry); words = now (words .entry); mem = now (mem .entry) })
+        (editAllocate (geometryOf g) (record { sizes = now (sizes .entry); words = now (words .entry); mem = now (mem .entry) }) f off (off + n))
+        r (record { sizes = now (sizes .exit); words = now (words .exit); mem = now (mem .entry) }) (now (counts .exit)) ⌝ }
+{
+    let end = off + n;
+    let first = off / g.block_size;
+    let count = (end + (g.block_size - 1)) / g.block_size - first;
+    let i = f * g.slots + first;
+    if !plan_allocate(words, counts, i, count, &mut saved[..count]) {
+        return false;
+    }
+    grow(sizes, f, end);
+    true
+}
+
+// Reserves the slots of the n bytes of file f from `off` on. Answers false, and changes nothing, exactly if the store would then
+// need more blocks than there are. It owns the words to save and only lends them.
+pub fn allocate_file(
+    g: Geometry,
+    sizes: &mut [u64],
+    words: &mut [u32],
+    counts: &mut [u32],
+    mem: &[u8],
+    f: usize,
+    off: usize,
+    n: usize,
+) -> bool
+    requires { ⌜ RegionKnown (geometryOf g) (record { sizes = now sizes; words = now words; mem = now mem }) (now counts)
+        f off (off + n) ⌝ }
+    ensures { λ r. ⌜ EditPromise (geometryOf g) (record { sizes = now (sizes .entry); words = now (words .entry); mem = now (mem .entry) })
+        (editAllocate (geometryOf g) (record { sizes = now (sizes .entry); words = now (words .entry); mem = now (mem .entry) }) f off (off + n))
+        r (record { sizes = now (sizes .exit); words = now (words .exit); mem = now (mem .entry) }) (now (counts .exit)) ⌝ }
+{
+    let mut saved = [0u32; 1024];
+    allocate_saving(g, sizes, words, counts, mem, f, off, n, &mut saved)
+}

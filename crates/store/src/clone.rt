@@ -1,0 +1,88 @@
+// CLONE: the plan of the target's slots, and where the plan fits the pool the size. No byte of memory changes.
+ghost use Prim.Native.Nat.{_<_, _≤_};
+ghost use lib.ListN.{length};
+ghost use Rattle.store.specs.Geometry.{geometryOf};
+ghost use Rattle.store.specs.Clone.{editClone};
+ghost use Rattle.store.specs.Edits.{EditPromise, CloneKnown};
+use crate::geometry::Geometry;
+use crate::plans::plan_clone;
+use crate::write::grow;
+
+// A CLONE of some bytes. `saved` has a word for each slot of a file.
+fn clone_saving(
+    g: Geometry,
+    sizes: &mut [u64],
+    words: &mut [u32],
+    counts: &mut [u32],
+    mem: &[u8],
+    s: usize,
+    f: usize,
+    soff: usize,
+    off: usize,
+    n: usize,
+    saved: &mut [u32],
+) -> bool
+    requires { ⌜ CloneKnown (geometryOf g) (record { sizes = now sizes; words = now words; mem = now mem }) (now counts)
+        s f soff off n × ((0 < n) × (geometryOf g .S ≤ length (now saved))) ⌝ }
+    ensures { λ r. ⌜ EditPromise (geometryOf g) (record { sizes = now (sizes .entry); words = now (words .entry); mem = now (mem .entry) })
+        (editClone (geometryOf g) (record { sizes = now (sizes .entry); words = now (words .entry); mem = now (mem .entry) }) s f soff off n)
+        r (record { sizes = now (sizes .exit); words = now (words .exit); mem = now (mem .entry) }) (now (counts .exit)) ⌝ }
+{
+    let from = s * g.slots + soff / g.block_size;
+    let to = f * g.slots + off / g.block_size;
+    let count = (n + (g.block_size - 1)) / g.block_size;
+    if !plan_clone(words, counts, from, to, count, &mut saved[..count]) {
+        return false;
+    }
+    grow(sizes, f, off + n);
+    true
+}
+
+// The same; it owns the words to save and only lends them.
+fn clone_some(
+    g: Geometry,
+    sizes: &mut [u64],
+    words: &mut [u32],
+    counts: &mut [u32],
+    mem: &[u8],
+    s: usize,
+    f: usize,
+    soff: usize,
+    off: usize,
+    n: usize,
+) -> bool
+    requires { ⌜ CloneKnown (geometryOf g) (record { sizes = now sizes; words = now words; mem = now mem }) (now counts)
+        s f soff off n × (0 < n) ⌝ }
+    ensures { λ r. ⌜ EditPromise (geometryOf g) (record { sizes = now (sizes .entry); words = now (words .entry); mem = now (mem .entry) })
+        (editClone (geometryOf g) (record { sizes = now (sizes .entry); words = now (words .entry); mem = now (mem .entry) }) s f soff off n)
+        r (record { sizes = now (sizes .exit); words = now (words .exit); mem = now (mem .entry) }) (now (counts .exit)) ⌝ }
+{
+    let mut saved = [0u32; 1024];
+    clone_saving(g, sizes, words, counts, mem, s, f, soff, off, n, &mut saved)
+}
+
+// Lets file f at `off` share the blocks of the n bytes of file s at `soff`. Answers false, and changes nothing, exactly if the
+// store would then need more blocks than there are.
+pub fn clone_file(
+    g: Geometry,
+    sizes: &mut [u64],
+    words: &mut [u32],
+    counts: &mut [u32],
+    mem: &[u8],
+    s: usize,
+    f: usize,
+    soff: usize,
+    off: usize,
+    n: usize,
+) -> bool
+    requires { ⌜ CloneKnown (geometryOf g) (record { sizes = now sizes; words = now words; mem = now mem }) (now counts)
+        s f soff off n ⌝ }
+    ensures { λ r. ⌜ EditPromise (geometryOf g) (record { sizes = now (sizes .entry); words = now (words .entry); mem = now (mem .entry) })
+        (editClone (geometryOf g) (record { sizes = now (sizes .entry); words = now (words .entry); mem = now (mem .entry) }) s f soff off n)
+        r (record { sizes = now (sizes .exit); words = now (words .exit); mem = now (mem .entry) }) (now (counts .exit)) ⌝ }
+{
+    if n == 0 {
+        return true;
+    }
+    clone_some(g, sizes, words, counts, mem, s, f, soff, off, n)
+}

@@ -132,7 +132,7 @@ module _ (g : Geometry) (pos : 0 < g .B) (x : State) (r : Ready g x) where
       go (yes l) =
           from-edited g (x .store) _ (x .current) _ (r .sound) e
           (deallocate-edited g pos (x .store) (r .sound) (fileOf (x .current)) o _ hf l (omega arith)
-          (rw (deallocate-is g pos (x .store) (r .sound) (fileOf (x .current)) o _ hf l (omega arith)) at room))
+          (rw (deallocate-is g (x .store) (fileOf (x .current)) o _ l) at room))
           (r .sound .fits (fileOf (x .current)) hf) room
 
   empty-clone : (s f soff off c : ℕ) → c ≡ 0 → editClone g (x .store) s f soff off c ≡ x .store

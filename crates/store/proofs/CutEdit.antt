@@ -22,7 +22,7 @@ use Rattle.store.proofs.FileLaws.{Sound}
 use Rattle.store.proofs.DeallocateLaws.{deallocate-is}
 use Rattle.store.proofs.SettleLaws.{saved-pool, plan-deallocate-is}
 use Rattle.store.proofs.EdgeLaws.{edges-touched, zero-bytes-is, edge-held}
-use Rattle.store.proofs.WriteEdit.{edit-refused, edit-done, sound-store, slotAt, lent, slots-inside, cut, part-long}
+use Rattle.store.proofs.WriteEdit.{edit-refused, edit-done, sound-store, slotAt, lent, slots-inside, lent-count, part-long}
 
 -- ---- the region, cut at the size
 
@@ -68,7 +68,7 @@ module _ {g : Geometry} {st : Store} {cs : List ℕ} {f off end first n : ℕ} (
     old-long = ap length (p .saved) ∙ part-long k (st .words) refl
 
     new-long : length (lent after (slotAt g f first) n) ≡ n
-    new-long = rw (cut k) (part-long k after words-same)
+    new-long = rw (lent-count k) (part-long k after words-same)
 
     pub cut-touched : AllEdges g (length (st .mem)) old (lent after (slotAt g f first) n) first (sizeOf st f) off end
     cut-touched =
@@ -77,9 +77,9 @@ module _ {g : Geometry} {st : Store} {cs : List ℕ} {f off end first n : ℕ} (
         rw (← k .first-is) at
         (edges-touched g (length (st .mem)) old (lent after i n) (sizeOf st f) off end (k .region .known .shaped .geometry) (omega (arith, snd .bytes)) (k .region .some) (k .region .fits)
         (old-long ∙ k .count-is) (new-long ∙ sym old-long)
-        (saved-pool (st .words) i n old (rw (cut k) (p .saved)) (g .N) (snd .pool))
+        (saved-pool (st .words) i n old (rw (lent-count k) (p .saved)) (g .N) (snd .pool))
         (saved-pool after i n (lent after i n) refl (g .N) pool)
-        (λ j h d. rw (cut k, k .count-is, k .first-is, after-is)
+        (λ j h d. rw (lent-count k, k .count-is, k .first-is, after-is)
         (edge-held g st f off end (omega (arith, slots-inside k, k .first-is, k .count-is)) j h (rw (p .saved, k .count-is, k .first-is) at d))))
 
     pub cut-done : {mem′ : List ℕ} → mem′ ≡ zeroSlots g (sizeOf st f) off end first old (lent after (slotAt g f first) n) (st .mem) 0 (length old)
@@ -89,4 +89,4 @@ module _ {g : Geometry} {st : Store} {cs : List ℕ} {f off end first n : ℕ} (
         (rw edit-is) (rw edit-is after-is) (rw edit-is (m ∙ bytes-are)) (p .planned .counted)
       where
         bytes-are : zeroSlots g (sizeOf st f) off end first old (lent after (slotAt g f first) n) (st .mem) 0 (length old) ≡ zeroBytes g st f off end
-        bytes-are = rw (zero-bytes-is g st f off end, ← k .count-is, ← k .first-is, ← after-is, ← p .saved, cut k, old-long)
+        bytes-are = rw (zero-bytes-is g st f off end, ← k .count-is, ← k .first-is, ← after-is, ← p .saved, lent-count k, old-long)

@@ -32,5 +32,6 @@ pub mod WriteEdit
 pub mod SettleLaws
 pub mod EditLaws
 pub mod CopyBytes
+pub mod CopyEdit
 pub mod CutEdit
 pub mod PlanEdits

@@ -10,7 +10,7 @@ use borrow.Author.Tests.{le-leb, not-true, not-false}
 use lib.ListN.{length, getD, set, take, drop, length-drop}
 use lib.Seq.{length-take-le, getD-take, getD-drop, getD-set-same, set-getD}
 use lib.Dec.{leb}
-use Rattle.store.specs.Geometry.{Geometry}
+use Rattle.store.specs.Geometry.{Geometry, goodGeometry}
 use Rattle.store.specs.Store.{Store, sizeOf}
 use Rattle.store.specs.Blocks.{need}
 use Rattle.store.specs.Tables.{InPool}
@@ -116,18 +116,20 @@ pub record RegionRoom (g : Geometry) (off end : ℕ) : Type 0 where
   pub slots : firstSlot g off + slotCount g off end ≤ g .S
   pub ordered : firstSlot g off ≤ ceilDiv end (g .B)
 
-module _ {g : Geometry} {st : Store} {cs : List ℕ} {f off end : ℕ} (k : RegionKnown g st cs f off end) where
-  pub region-room : RegionRoom g off end
-  region-room =
-      let o = good-geometry (k .known) in
-      record {
-        pos = block-pos o;
-        block-most = o .block-most;
-        slots-most = o .slots-most;
-        end-most = omega (arith, k .fits, file-most g o);
-        slots = slots-fit g (block-pos o) off end (k .some) (k .fits);
-        ordered = first-before g (block-pos o) off end (k .some) (k .fits);
-      }
+pub slots-room : (g : Geometry) (off end : ℕ) → goodGeometry g ≡ true → off < end → end ≤ g .S * g .B → RegionRoom g off end
+slots-room g off end h some fits =
+    let o = good g h in
+    record {
+      pos = block-pos o;
+      block-most = o .block-most;
+      slots-most = o .slots-most;
+      end-most = omega (arith, file-most g o);
+      slots = slots-fit g (block-pos o) off end some fits;
+      ordered = first-before g (block-pos o) off end some fits;
+    }
+
+pub region-room : {g : Geometry} {st : Store} {cs : List ℕ} {f off end : ℕ} → RegionKnown g st cs f off end → RegionRoom g off end
+region-room {g} {off = off} {end = end} k = slots-room g off end (k .known .shaped .geometry) (k .some) (k .fits)
 
 -- ---- the slots of a WRITE
 
@@ -155,41 +157,53 @@ module _ {g : Geometry} {st : Store} {cs : List ℕ} {f off end first n : ℕ} (
   plan-is : planWrite g (st .words) f off end ≡ each (own (slotAt g f first)) (st .words) 0 n
   plan-is = rw (k .count-is, k .first-is) (plan-write-is g (st .words) f off end)
 
-  pub cut : slotAt g f first + n - slotAt g f first ≡ n
-  cut = add-sub-cancel-left (slotAt g f first) n
+  pub lent-count : slotAt g f first + n - slotAt g f first ≡ n
+  lent-count = add-sub-cancel-left (slotAt g f first) n
 
   pub part-long : (ws : List ℕ) → length ws ≡ length (st .words) → length (take n (drop (slotAt g f first) ws)) ≡ n
   part-long ws h = length-take-le n (drop (slotAt g f first) ws) (rw (length-drop (slotAt g f first) ws) (omega (arith, slots-inside)))
 
-  edit-is : (new : ℕ → ℕ) → editWrite g st f off end new
+  pub edit-is : (new : ℕ → ℕ) → editWrite g st f off end new
+      ≡ record { sizes = set (st .sizes) f (max (sizeOf st f) end); words = planWrite g (st .words) f off end; mem = writeBytes g st f off end new }
+  edit-is = write-is g (region-room (k .region) .pos) st snd f off end (known .file) (k .region .some) (k .region .fits)
+
+  edit-owns : (new : ℕ → ℕ) → editWrite g st f off end new
       ≡ record { sizes = set (st .sizes) f (max (sizeOf st f) end); words = each (own (slotAt g f first)) (st .words) 0 n; mem = writeBytes g st f off end new }
-  edit-is new = rw (← plan-is) (write-is g (region-room (k .region) .pos) st snd f off end (known .file) (k .region .some) (k .region .fits) new)
+  edit-owns new = rw (← plan-is) (edit-is new)
 
   -- after the plan
   module _ {done : Bool} {after cs′ old : List ℕ} (same : length cs′ ≡ length cs) (p : WritePlanned (st .words) (slotAt g f first) n done after cs′ old) where
+    pub write-judged : (new : ℕ → ℕ) → leb (need (editWrite g st f off end new)) (g .N) ≡ done
+    write-judged new = rw (edit-owns new, ← known .blocks, ← same) (sym (p .planned .answer))
+
     pub write-refused : (new : ℕ → ℕ) → not done ≡ true → EditPromise g st (editWrite g st f off end new) false (record { sizes = st .sizes; words = after; mem = st .mem }) cs′
-    write-refused new = plan-refused known (edit-is new) same (p .planned)
+    write-refused new = plan-refused known (edit-owns new) same (p .planned)
 
     module _ (e : not done ≡ false) where
       after-is : after ≡ each (own (slotAt g f first)) (st .words) 0 n
       after-is = rw (← p .planned .answer, not-false done e) at (p .planned .words-are)
 
-      after-long : length after ≡ length (st .words)
+      pub planned-is : after ≡ planWrite g (st .words) f off end
+      planned-is = after-is ∙ sym plan-is
+
+      pub after-long : length after ≡ length (st .words)
       after-long = ap length after-is ∙ each-sameR (own (slotAt g f first)) (own-sameR (slotAt g f first)) n 0 (st .words) .slots
 
-      old-long : length old ≡ n
+      pub after-pool : InPool (g .N) after
+      after-pool = rw (sym (same ∙ known .blocks)) (p .planned .counted .pool)
+
+      pub old-long : length old ≡ n
       old-long = ap length (p .saved) ∙ part-long (st .words) refl
 
       pub slots-touched : AllTouched g (length (st .mem)) old (lent after (slotAt g f first) n) first off end
       slots-touched =
           let i : ℕ = slotAt g f first in
-          let long : length (lent after i n) ≡ n = rw cut (part-long after after-long) in
-          let pool : InPool (g .N) after = rw (sym (same ∙ known .blocks)) (p .planned .counted .pool) in
+          let long : length (lent after i n) ≡ n = rw lent-count (part-long after after-long) in
           rw (← k .first-is) at
           (all-touched g (length (st .mem)) old (lent after i n) off end (good-geometry known) (omega (arith, snd .bytes)) (k .region .some) (k .region .fits)
           (old-long ∙ k .count-is) (long ∙ sym old-long)
-          (saved-pool (st .words) i n old (rw cut (p .saved)) (g .N) (snd .pool))
-          (saved-pool after i n (lent after i n) refl (g .N) pool)
+          (saved-pool (st .words) i n old (rw lent-count (p .saved)) (g .N) (snd .pool))
+          (saved-pool after i n (lent after i n) refl (g .N) after-pool)
           (λ j h. rw (getD-take (i + n - i) (drop i after) j 0 (omega (arith, long)), getD-drop i after j 0, after-is)
           (plan-held i n 0 (st .words) (omega (arith, slots-inside)) j (omega arith) (omega (arith, long)))))
 
@@ -197,8 +211,8 @@ module _ {g : Geometry} {st : Store} {cs : List ℕ} {f off end first n : ℕ} (
           → Finished g new first old (lent after (slotAt g f first) n) f off end (st .sizes) (st .mem) sizes′ mem′
           → EditPromise g st (editWrite g st f off end new) true (record { sizes = sizes′; words = after; mem = mem′ }) cs′
       write-done new {sizes′} {mem′} fin =
-          plan-done known (edit-is new) same (p .planned) e (fin .sizes-are) (fin .mem-is ∙ bytes-are)
+          plan-done known (edit-owns new) same (p .planned) e (fin .sizes-are) (fin .mem-is ∙ bytes-are)
         where
           bytes-are : storeSlots g (within off end) new first old (lent after (slotAt g f first) n) (st .mem) 0 (length old)
               ≡ writeBytes g st f off end new
-          bytes-are = rw (write-bytes-is g st f off end new, ← k .count-is, ← k .first-is, plan-is, ← after-is, ← p .saved, cut, old-long)
+          bytes-are = rw (write-bytes-is g st f off end new, ← k .count-is, ← k .first-is, plan-is, ← after-is, ← p .saved, lent-count, old-long)

@@ -3,6 +3,7 @@ use Prim.Native.Nat.{ℕ, _+_, _*_, _%_, _≤_, _<_, max}
 use mathlib.Core.Path.{_≡_}
 use mathlib.Core.Bool.{Bool, true, cond}
 use mathlib.Core.List.{List}
+use mathlib.Core.Logic.{_≢_}
 use lib.ListN.{length, getD, set}
 use lib.Dec.{leb}
 use Rattle.store.specs.Geometry.{Geometry}
@@ -75,4 +76,18 @@ pub record CloneKnown (g : Geometry) (st : Store) (counts : List ℕ) (s f soff 
   pub source-even : soff % g .B ≡ 0
   pub target-even : off % g .B ≡ 0
   pub inside : soff + n ≤ sizeOf st s
+  pub fits : 0 < n → off + n ≤ g .S * g .B
+
+-- ---- COPY
+
+-- n bytes from soff on of file s, which is not f
+pub record SourceKnown (g : Geometry) (st : Store) (s f soff n : ℕ) : Type 0 where
+  pub file : s < g .F
+  pub other : s ≢ f
+  pub inside : soff + n ≤ sizeOf st s
+
+-- a COPY of them to file f at off; one of no bytes may lie anywhere
+pub record CopyKnown (g : Geometry) (st : Store) (counts : List ℕ) (s f soff off n : ℕ) : Type 0 where
+  pub known : EditKnown g st counts f
+  pub source : SourceKnown g st s f soff n
   pub fits : 0 < n → off + n ≤ g .S * g .B

@@ -3,6 +3,7 @@ mod allocate;
 mod bytes;
 mod clone;
 mod copy;
+mod copy_edit;
 mod deallocate;
 mod files;
 mod geometry;
@@ -20,6 +21,7 @@ mod write;
 
 pub use allocate::allocate_file;
 pub use clone::clone_file;
+pub use copy_edit::copy_file;
 pub use deallocate::deallocate_file;
 pub use geometry::Geometry;
 pub use make::make_empty;

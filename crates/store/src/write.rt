@@ -1,8 +1,10 @@
 // WRITE: the plan of its slots, and where the plan fits the pool the bytes and the size.
 ghost use mathlib.Core.Path.{_≡_};
-ghost use Prim.Native.Nat.{max, _+_, _-_, _^_, _<_, _≤_};
+ghost use mathlib.Core.Bool.{true};
+ghost use Prim.Native.Nat.{max, _+_, _-_, _*_, _^_, _<_, _≤_};
 ghost use lib.ListN.{length, getD, set};
-ghost use Rattle.store.specs.Geometry.{geometryOf};
+ghost use Rattle.store.specs.Geometry.{goodGeometry, geometryOf};
+ghost use Rattle.store.specs.Edit.{slotCount};
 ghost use Rattle.store.specs.Write.{editWrite};
 ghost use Rattle.store.specs.Bytes.{AllTouched};
 ghost use Rattle.store.specs.Edits.{EditPromise, WriteKnown, RegionKnown, SlotsKnown, Finished};
@@ -20,6 +22,14 @@ pub fn grow(sizes: &mut [u64], f: usize, end: usize)
         return;
     }
     sizes[f] = e;
+}
+
+// How many slots have a byte in the region from `off` up to `end`.
+pub fn slot_count(g: Geometry, off: usize, end: usize) -> usize
+    requires { ⌜ (goodGeometry (geometryOf g) ≡ true) × ((off < end) × (end ≤ geometryOf g .S * geometryOf g .B)) ⌝ }
+    ensures { λ r. ⌜ r ≡ slotCount (geometryOf g) off end ⌝ }
+{
+    (end + (g.block_size - 1)) / g.block_size - off / g.block_size
 }
 
 // After a plan that was done: the bytes of d at `off`, in the slots from `first` on whose words went from `old` to `new`, and
@@ -93,8 +103,7 @@ fn write_saving(
         f off (off + length (now (d .entry))) (λ p. getD (now (d .entry)) (p - off) 0))
         r (record { sizes = now (sizes .exit); words = now (words .exit); mem = now (mem .exit) }) (now (counts .exit)) ⌝ }
 {
-    let first = off / g.block_size;
-    let n = (off + d.len() + (g.block_size - 1)) / g.block_size - first;
+    let n = slot_count(g, off, off + d.len());
     write_range(
         g,
         sizes,
@@ -102,7 +111,7 @@ fn write_saving(
         mem,
         counts,
         f,
-        first,
+        off / g.block_size,
         off,
         d,
         &mut saved[..n],

@@ -1,4 +1,4 @@
-use mathlib.Core.Path.{refl, sym}
+use mathlib.Core.Path.{refl, sym, _∙_}
 use native.Mathlib.Omega.{arith}
 use lib.Seq.{length-take-le}
 use Rattle.store.proofs.WriteEdit.{region-room}
@@ -6,38 +6,36 @@ use borrow.Author.Needs.{needs}
 use Rattle.store.proofs.write.write_saving.Statement.{statement}
 use Rattle.store.proofs.write.write_saving.Tie as tie
 
-div-first : tie.Need-div-first
-div-first c = let s = c .before .before .before .before .before .before .before in omega (arith, region-room (s .pre .0))
+add-slot-count : tie.Need-add-slot-count
+add-slot-count c = let s = c .before .before .before .before .before .before in omega (arith, region-room (s .pre .0))
 
-add-n : tie.Need-add-n
-add-n c = let s = c .before .before .before .before .before .before .before in omega (arith, region-room (s .pre .0))
+slot-count-requires : tie.Need-slot-count-requires
+slot-count-requires c κs =
+    let s = c .before .before .before .before .before .before in
+    (s .pre .0 .known .shaped .geometry, (s .pre .0 .some, s .pre .0 .fits))
 
-sub-n : tie.Need-sub-n
-sub-n c = let s = c .before .before .before .before .before .before .before .before in omega (arith, region-room (s .pre .0))
-
-add-n-2 : tie.Need-add-n-2
-add-n-2 c = let s = c .before .before .before .before .before .before .before .before in omega (arith, region-room (s .pre .0))
-
-div-n : tie.Need-div-n
-div-n c = let s = c .before .before .before .before .before .before .before .before .before in omega (arith, region-room (s .pre .0))
-
-sub-n-2 : tie.Need-sub-n-2
-sub-n-2 c = let s = c .before .before .before .before .before .before .before .before .before in omega (arith, region-room (s .pre .0))
+div-write-range : tie.Need-div-write-range
+div-write-range c =
+    let s = c .before .before .before .before .before .before .before .before .before .before .before .before in
+    omega (arith, region-room (s .pre .0))
 
 slice-relend-prefix-write-range : tie.Need-slice-relend-prefix-write-range
 slice-relend-prefix-write-range c =
-    let s = c .before .before .before .before .before .before .before .before .before .before .before .before .before in
-    omega (arith, region-room (s .pre .0))
+    let k = c .before .before .before .before .before in
+    let s = k .before .before .before .before .before .before .before in
+    omega (arith, region-room (s .pre .0), s .pre .1, k .slot-count .ensures)
 
 slice-aggregate-write-range : tie.Need-slice-aggregate-write-range
 slice-aggregate-write-range c =
-    let s = c .before .before .before .before .before .before .before .before .before .before .before .before .before .before in
-    sym (length-take-le _ _ (omega (arith, region-room (s .pre .0), s .pre .1)))
+    let k = c .before .before .before .before .before .before in
+    let s = k .before .before .before .before .before .before .before in
+    sym (length-take-le _ _ (omega (arith, region-room (s .pre .0), s .pre .1, k .slot-count .ensures)))
 
 write-range-requires : tie.Need-write-range-requires
 write-range-requires c κs =
-    let s = c .before .before .before .before .before .before .before .before .before .before .before .before .before .before in
-    record { region = s .pre .0; first-is = refl; count-is = length-take-le _ _ (omega (arith, region-room (s .pre .0), s .pre .1)) }
+    let k = c .before .before .before .before .before .before in
+    let s = k .before .before .before .before .before .before .before in
+    record { region = s .pre .0; first-is = refl; count-is = length-take-le _ _ (omega (arith, region-room (s .pre .0), s .pre .1, k .slot-count .ensures)) ∙ k .slot-count .ensures }
 
 same-length : tie.Need-same-length
 same-length c = search needs
@@ -61,12 +59,9 @@ pub write-saving-spec : {M : Type 1} → statement M
 write-saving-spec =
     tie.close
     (tie.spec
-    div-first
-    add-n
-    sub-n
-    add-n-2
-    div-n
-    sub-n-2
+    add-slot-count
+    slot-count-requires
+    div-write-range
     slice-relend-prefix-write-range
     slice-aggregate-write-range
     write-range-requires

@@ -1,14 +1,13 @@
 -- Edits in place after their plan; WRITE: what its steps ask, and its ways out.
-use Prim.Native.Nat.{ℕ, zero, suc, _+_, _-_, _*_, _/_, _≤_, _<_, max}
+use Prim.Native.Nat.{ℕ, _+_, _-_, _*_, _≤_, _<_, max}
 use mathlib.Core.Path.{_≡_, refl, sym, ap, _∙_}
 use mathlib.Core.Bool.{Bool, true, false, not}
 use mathlib.Core.List.{List}
 use native.Mathlib.Nat.{add-sub-cancel-left, mul-le-mul-right}
-use native.Mathlib.Decide.{ℕ-discrete}
 use native.Mathlib.Omega.{arith}
 use borrow.Author.Tests.{le-leb, not-true, not-false}
 use lib.ListN.{length, getD, set, take, drop, length-drop}
-use lib.Seq.{length-take-le, getD-take, getD-drop, getD-set-same, set-getD}
+use lib.Seq.{length-take-le, getD-take, getD-drop, set-getD}
 use lib.Dec.{leb}
 use Rattle.store.specs.Geometry.{Geometry, goodGeometry}
 use Rattle.store.specs.Store.{Store, sizeOf}
@@ -17,19 +16,19 @@ use Rattle.store.specs.Tables.{InPool}
 use Rattle.store.specs.Sound.{ceilDiv}
 use Rattle.store.specs.Plan.{Counted, Planned}
 use Rattle.store.specs.Own.{WritePlanned}
-use Rattle.store.specs.Edit.{each, within, firstSlot, slotCount, owned, own}
+use Rattle.store.specs.Edit.{each, within, firstSlot, slotCount, own}
 use Rattle.store.specs.Write.{planWrite, writeBytes, editWrite}
 use Rattle.store.specs.Bytes.{AllTouched, storeSlots}
 use Rattle.store.specs.Edits.{EditKnown, EditPromise, RegionKnown, SlotsKnown, Finished}
 use Rattle.store.proofs.GeometryLaws.{Good, good, block-pos, file-most}
-use Rattle.store.proofs.PlanLaws.{each-sameR, own-sameR, own-slot}
-use Rattle.store.proofs.ViewLaws.{plan-before, own-local}
+use Rattle.store.proofs.PlanLaws.{each-sameR, own-sameR}
 use Rattle.store.proofs.FileLaws.{Sound, first-before, slots-fit}
 use Rattle.store.proofs.WriteLaws.{write-is}
 use Rattle.store.proofs.SoundLaws.{sound-facts}
 use Rattle.store.proofs.SettleLaws.{saved-pool}
 use Rattle.store.proofs.OwnLaws.{plan-write-is}
 use Rattle.store.proofs.StoreLaws.{all-touched, write-bytes-is}
+use Rattle.store.proofs.EdgeLaws.{plan-held}
 
 -- ---- any edit: its two ways out
 
@@ -53,24 +52,6 @@ module _ (sizes : List ℕ) (f end : ℕ) where
   size-grown h =
       let e : max (getD sizes f 0) end ≡ end = omega arith in
       rw e
-
--- ---- words of a plan
-
--- each slot of a plan has a block afterwards
-pub plan-held : (at n k : ℕ) (ws : List ℕ) → at + (k + n) ≤ length ws → (j : ℕ) → k ≤ j → j < k + n → 1 ≤ getD (each (own at) ws k n) (at + j) 0 / 2
-unfolding own
-plan-held at zero k ws h j l u = absurd (omega arith)
-plan-held at (suc n) k ws h j l u = go (ℕ-discrete j k) (plan-held at n (suc k) (own at ws k) (omega (arith, own-sameR at ws k .slots)) j)
-  where
-    kept : getD (each (own at) (own at ws k) (suc k) n) (at + k) 0 ≡ owned ws (getD ws (at + k) 0)
-    kept =
-        plan-before at (own at) (own-local (λ k. false) at) n (suc k) (at + k) (own at ws k) (omega arith)
-        ∙ getD-set-same ws (at + k) (owned ws (getD ws (at + k) 0)) 0 (omega arith)
-
-    go : Dec (j ≡ k) → (suc k ≤ j → j < suc k + n → 1 ≤ getD (each (own at) (own at ws k) (suc k) n) (at + j) 0 / 2)
-        → 1 ≤ getD (each (own at) (own at ws k) (suc k) n) (at + j) 0 / 2
-    go (yes e) rest = rw (e, kept) (own-slot ws (at + k) (omega arith) .block)
-    go (no d) rest = rest (omega (arith, d)) (omega arith)
 
 -- ---- what is known where an edit is called
 
@@ -205,7 +186,7 @@ module _ {g : Geometry} {st : Store} {cs : List ℕ} {f off end first n : ℕ} (
           (saved-pool (st .words) i n old (rw lent-count (p .saved)) (g .N) (snd .pool))
           (saved-pool after i n (lent after i n) refl (g .N) after-pool)
           (λ j h. rw (getD-take (i + n - i) (drop i after) j 0 (omega (arith, long)), getD-drop i after j 0, after-is)
-          (plan-held i n 0 (st .words) (omega (arith, slots-inside)) j (omega arith) (omega (arith, long)))))
+          (plan-held (λ k. false) i n 0 (st .words) (omega (arith, slots-inside)) j (omega arith) (omega (arith, long)) refl)))
 
       pub write-done : (new : ℕ → ℕ) {sizes′ mem′ : List ℕ}
           → Finished g new first old (lent after (slotAt g f first) n) f off end (st .sizes) (st .mem) sizes′ mem′

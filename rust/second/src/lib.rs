@@ -1,0 +1,22 @@
+//! A second program for document 01: the box in plain Rust, written from the text alone.
+//!
+//! `xdr` reads and writes the wire forms, `operation` decodes the twelve operations, `store` and
+//! `edit` hold the rules of the store, `reading` answers READ, READ_PLUS and SEEK, `runner` runs the
+//! operations, `compound` a whole request, and `frames` is the program's line.
+
+mod compound;
+mod edit;
+mod frames;
+mod geometry;
+mod operation;
+mod reading;
+mod runner;
+mod status;
+mod store;
+mod xdr;
+
+pub use compound::{serve, Served, REPLY_MIN, REQUEST_MAX};
+pub use frames::line;
+pub use geometry::Geometry;
+pub use status::{Refusal, Status};
+pub use store::{count_blocks, make_empty, slot, soundness, Counted, Kind, Shown, Store};

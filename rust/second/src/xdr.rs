@@ -1,0 +1,100 @@
+//! XDR by RFC 4506: big-endian, padded to four with zeros.
+
+/// Missing bytes, or bytes that stand for no value.
+#[derive(Clone, Copy, Debug, PartialEq, Eq)]
+pub(crate) struct BadXdr;
+
+/// Reads a request from its start.
+#[derive(Clone)]
+pub(crate) struct Reader<'a> {
+    bytes: &'a [u8],
+    at: usize,
+}
+
+impl<'a> Reader<'a> {
+    pub fn new(bytes: &'a [u8]) -> Reader<'a> {
+        Reader { bytes, at: 0 }
+    }
+
+    /// How many bytes have been read.
+    pub fn at(&self) -> usize {
+        self.at
+    }
+
+    fn take(&mut self, count: usize) -> Result<&'a [u8], BadXdr> {
+        let rest = &self.bytes[self.at..];
+        let taken = rest.get(..count).ok_or(BadXdr)?;
+        self.at += count;
+        Ok(taken)
+    }
+
+    pub fn array<const COUNT: usize>(&mut self) -> Result<[u8; COUNT], BadXdr> {
+        self.take(COUNT)?.try_into().map_err(|_| BadXdr)
+    }
+
+    pub fn u32(&mut self) -> Result<u32, BadXdr> {
+        self.array().map(u32::from_be_bytes)
+    }
+
+    pub fn u64(&mut self) -> Result<u64, BadXdr> {
+        self.array().map(u64::from_be_bytes)
+    }
+
+    /// An enum whose values are 0 to `last`.
+    pub fn up_to(&mut self, last: u32) -> Result<u32, BadXdr> {
+        let value = self.u32()?;
+        (value <= last).then_some(value).ok_or(BadXdr)
+    }
+
+    pub fn boolean(&mut self) -> Result<bool, BadXdr> {
+        self.up_to(1).map(|value| value == 1)
+    }
+
+    /// Bytes with their length before them and zeros after them, at most `longest`.
+    pub fn opaque(&mut self, longest: u32) -> Result<&'a [u8], BadXdr> {
+        let length = self.up_to(longest)? as usize;
+        let bytes = self.take(length)?;
+        let pad = self.take(pad_of(length))?;
+        let clean = pad.iter().all(|&byte| byte == 0);
+        clean.then_some(bytes).ok_or(BadXdr)
+    }
+}
+
+fn pad_of(length: usize) -> usize {
+    (4 - length % 4) % 4
+}
+
+/// Gathers a reply, or a part of one.
+#[derive(Default)]
+pub(crate) struct Writer {
+    bytes: Vec<u8>,
+}
+
+impl Writer {
+    pub fn u32(&mut self, value: u32) {
+        self.raw(&value.to_be_bytes());
+    }
+
+    pub fn u64(&mut self, value: u64) {
+        self.raw(&value.to_be_bytes());
+    }
+
+    pub fn boolean(&mut self, value: bool) {
+        self.u32(u32::from(value));
+    }
+
+    pub fn opaque(&mut self, bytes: &[u8]) {
+        self.u32(bytes.len() as u32);
+        self.raw(bytes);
+        self.raw(&[0; 3][..pad_of(bytes.len())]);
+    }
+
+    /// Bytes of a known length, a multiple of four, or parts already written.
+    pub fn raw(&mut self, bytes: &[u8]) {
+        self.bytes.extend_from_slice(bytes);
+    }
+
+    pub fn into_bytes(self) -> Vec<u8> {
+        self.bytes
+    }
+}

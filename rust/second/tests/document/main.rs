@@ -1,0 +1,11 @@
+//! Document 01, tried from outside: every test goes through the public calls.
+
+mod bench;
+mod both_sides;
+mod compounds;
+mod edits;
+mod frames;
+mod reading;
+mod refusals;
+mod statuses;
+mod walk;

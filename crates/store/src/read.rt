@@ -4,7 +4,7 @@ ghost use mathlib.Core.List.{List};
 ghost use Prim.Native.Nat.{ℕ, _+_, _-_, _%_, _<_, _≤_, min};
 ghost use lib.ListN.{length};
 ghost use Rattle.xdr.specs.Bytes.{Written};
-ghost use Rattle.xdr.specs.Encode.{opaqueSize};
+ghost use Rattle.xdr.specs.Encode.{opaque, opaqueSize};
 ghost use Rattle.store.specs.Geometry.{geometryOf};
 ghost use Rattle.store.specs.Content.{bytesFrom};
 ghost use Rattle.store.specs.Read.{dataPiece, holePiece, pieceBytes, pieceSize};
@@ -72,7 +72,29 @@ fn put_hole(out: &mut [u8], at: usize, start: u64, n: u64) -> usize
     xdr::put_u64(out, size, n)
 }
 
-// The file's n bytes from place i on, as data: read into the place where they are answered.
+// The file's n bytes from place i on, as opaque data: read into the place where they are answered.
+pub fn put_file_bytes(
+    g: Geometry,
+    words: &[u32],
+    mem: &[u8],
+    f: usize,
+    i: usize,
+    n: usize,
+    out: &mut [u8],
+    at: usize,
+) -> usize
+    requires { ⌜ Readable (geometryOf g) (now words) (now mem) f (i + n) × (at + opaqueSize n ≤ length (now out)) ⌝ }
+    ensures { λ r. ⌜ ((sizes : List ℕ)
+        → Written (opaque (bytesFrom (geometryOf g) (record { sizes = sizes; words = now (words .entry); mem = now (mem .entry) }) f i n))
+        (opaqueSize n) at (now (out .entry)) (now (out .exit)) r) ⌝ }
+{
+    let start = xdr::put_u32(out, at, n as u32);
+    let end = start + n;
+    read_bytes(g, words, mem, f, i, &mut out[start..end]);
+    xdr::put_zeros(out, end, xdr::padding(n))
+}
+
+// The same as a piece of data.
 fn put_data(
     g: Geometry,
     words: &[u32],
@@ -89,11 +111,8 @@ fn put_data(
         (4 + (8 + opaqueSize n)) at (now (out .entry)) (now (out .exit)) r) ⌝ }
 {
     let from = xdr::put_u32(out, at, 0);
-    let size = xdr::put_u64(out, from, i as u64);
-    let start = xdr::put_u32(out, size, n as u32);
-    let end = start + n;
-    read_bytes(g, words, mem, f, i, &mut out[start..end]);
-    xdr::put_zeros(out, end, xdr::padding(n))
+    let data = xdr::put_u64(out, from, i as u64);
+    put_file_bytes(g, words, mem, f, i, n, out, data)
 }
 
 // The file's n bytes from place i on, all hole or all data as place i is.

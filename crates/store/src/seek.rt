@@ -26,7 +26,7 @@ pub fn hole_at(g: Geometry, words: &[u32], f: usize, i: usize) -> bool
 }
 
 // The first place from `off` on that is a hole, or data, as asked; or the size.
-pub fn seek(g: Geometry, words: &[u32], size: u64, f: usize, hole: bool, off: u64) -> u64
+pub fn seek_file(g: Geometry, words: &[u32], size: u64, f: usize, hole: bool, off: u64) -> u64
     requires { ⌜ Placed (geometryOf g) (now words) f size ⌝ }
     ensures { λ r. ⌜ ((sizes m : List ℕ) → getD sizes f 0 ≡ size
         → r ≡ seekPlace (geometryOf g) (record { sizes = sizes; words = now (words .entry); mem = m }) f hole off) ⌝ }
@@ -48,5 +48,5 @@ pub fn piece_end(g: Geometry, words: &[u32], f: usize, i: usize, end: usize) -> 
     ensures { λ r. ⌜ PieceEnds (geometryOf g) (now (words .entry)) f i end r ⌝ }
 {
     let hole = hole_at(g, words, f, i);
-    seek(g, words, end as u64, f, !hole, i as u64) as usize
+    seek_file(g, words, end as u64, f, !hole, i as u64) as usize
 }

@@ -21,7 +21,13 @@ pub struct Counts {
 
 // The judgement of tables that have their lengths. `counts` has a zero for each block; where the store is sound it is the
 // table of holders afterwards.
-pub fn survey(g: Geometry, sizes: &[u64], words: &[u32], mem: &[u8], counts: &mut [u32]) -> Counts
+pub fn survey_tables(
+    g: Geometry,
+    sizes: &[u64],
+    words: &[u32],
+    mem: &[u8],
+    counts: &mut [u32],
+) -> Counts
     requires { ⌜ TableReady (geometryOf g) (record { sizes = now sizes; words = now words; mem = now mem }) (now counts) ⌝ }
     ensures { λ r. ⌜ Surveyed (geometryOf g) (record { sizes = now (sizes .entry); words = now (words .entry); mem = now (mem .entry) })
         (r .number) (r .used) (r .owed) (now (counts .exit)) ⌝ }
@@ -64,7 +70,7 @@ fn survey_in(g: Geometry, sizes: &[u64], words: &[u32], mem: &[u8], counts: &mut
         (r .number) (r .used) (r .owed) ⌝ }
 {
     let n = g.blocks;
-    survey(g, sizes, words, mem, &mut counts[..n])
+    survey_tables(g, sizes, words, mem, &mut counts[..n])
 }
 
 fn survey_shaped(g: Geometry, sizes: &[u64], words: &[u32], mem: &[u8]) -> Counts

@@ -5,14 +5,14 @@ use borrow.Author.Needs.{needs}
 use Rattle.store.proofs.survey.survey_in.Statement.{statement}
 use Rattle.store.proofs.survey.survey_in.Tie as tie
 
-slice-relend-prefix-survey : tie.Need-slice-relend-prefix-survey
-slice-relend-prefix-survey c = search needs
+slice-relend-prefix-survey-tables : tie.Need-slice-relend-prefix-survey-tables
+slice-relend-prefix-survey-tables c = search needs
 
-slice-aggregate-survey : tie.Need-slice-aggregate-survey
-slice-aggregate-survey c = sym (length-take-le _ _ (c .before .before .before .before .before .pre .long))
+slice-aggregate-survey-tables : tie.Need-slice-aggregate-survey-tables
+slice-aggregate-survey-tables c = sym (length-take-le _ _ (c .before .before .before .before .before .pre .long))
 
-survey-requires : tie.Need-survey-requires
-survey-requires c κs = table-part _ _ _ (c .before .before .before .before .before .pre)
+survey-tables-requires : tie.Need-survey-tables-requires
+survey-tables-requires c κs = table-part _ _ _ (c .before .before .before .before .before .pre)
 
 same-length : tie.Need-same-length
 same-length c = search needs
@@ -24,8 +24,8 @@ pub survey-in-spec : {M : Type 1} → statement M
 survey-in-spec =
     tie.close
     (tie.spec
-    slice-relend-prefix-survey
-    slice-aggregate-survey
-    survey-requires
+    slice-relend-prefix-survey-tables
+    slice-aggregate-survey-tables
+    survey-tables-requires
     same-length
     returns)

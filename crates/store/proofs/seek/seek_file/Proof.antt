@@ -11,8 +11,8 @@ use Rattle.store.proofs.GeometryLaws.{good, file-most}
 use Rattle.store.proofs.ReadLaws.{slot-end}
 use Rattle.store.proofs.PlaceLaws.{placed-pos}
 use Rattle.store.proofs.ScanLaws.{seek-here, seek-on, seek-past}
-use Rattle.store.proofs.seek.seek.Statement.{statement}
-use Rattle.store.proofs.seek.seek.Tie as tie
+use Rattle.store.proofs.seek.seek_file.Statement.{statement}
+use Rattle.store.proofs.seek.seek_file.Tie as tie
 
 abbrev Inv-loop : tie.InvT-loop
 Inv-loop g words size f hole off b i₀ i =
@@ -67,8 +67,8 @@ returns-2 c =
     let l = c .before in
     λ sizes m e. sym (sym (l .loop .inv sizes m e) ∙ seek-past _ _ _ _ (l .before .before .pre) e _ _ (c .loop-test .left))
 
-pub seek-spec : {M : Type 1} → statement M
-seek-spec =
+pub seek-file-spec : {M : Type 1} → statement M
+seek-file-spec =
     tie.close
     (tie.spec
     Inv-loop

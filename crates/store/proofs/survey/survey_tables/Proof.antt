@@ -1,8 +1,8 @@
 use native.Mathlib.Omega.{arith}
 use Rattle.store.proofs.SurveyLaws.{survey-words, pooled, survey-files, untallied, in-table, sum-small, survey-room, surveyed}
 use borrow.Author.Needs.{needs}
-use Rattle.store.proofs.survey.survey.Statement.{statement}
-use Rattle.store.proofs.survey.survey.Tie as tie
+use Rattle.store.proofs.survey.survey_tables.Statement.{statement}
+use Rattle.store.proofs.survey.survey_tables.Tie as tie
 
 words-formed-requires : tie.Need-words-formed-requires
 words-formed-requires c κs = search needs
@@ -94,8 +94,8 @@ returns-4 c =
     surveyed _ _ _ (s .pre) _ (k .words-formed .ensures) (t .if1 .left) _ (f .files-sound .ensures) (i .if2 .left) _ (y .tally .kept .1 .0) (y .tally .ensures) _ _
     (u .used-blocks .ensures) (o .owed-slots .ensures) (c .if3 .left)
 
-pub survey-spec : {M : Type 1} → statement M
-survey-spec =
+pub survey-tables-spec : {M : Type 1} → statement M
+survey-tables-spec =
     tie.close
     (tie.spec
     words-formed-requires

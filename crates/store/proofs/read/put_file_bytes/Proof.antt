@@ -1,0 +1,77 @@
+use Prim.Native.Nat.{_+_}
+use native.Mathlib.Omega.{arith}
+use borrow.Rule.Slice.PartMut.{mid-len}
+use borrow.Author.Needs.{needs}
+use Rattle.xdr.specs.Encode.{opaque}
+use Rattle.xdr.proofs.BytesLaws.{written-then}
+use Rattle.store.proofs.GeometryLaws.{good, file-most}
+use Rattle.store.proofs.ViewLaws.{length-tab}
+use Rattle.store.proofs.PlaceLaws.{readable-to, read-written}
+use Rattle.store.proofs.read.put_file_bytes.Statement.{statement}
+use Rattle.store.proofs.read.put_file_bytes.Tie as tie
+
+cast-put-u32 : tie.Need-cast-put-u32
+cast-put-u32 c =
+    let s = c .before .before .before .before in
+    omega (arith, s .pre .0 .fits, file-most _ (good _ (s .pre .0 .geometry)))
+
+put-u32-requires : tie.Need-put-u32-requires
+put-u32-requires c κs = search needs
+
+add-end : tie.Need-add-end
+add-end c = search needs
+
+sub-read-bytes : tie.Need-sub-read-bytes
+sub-read-bytes c = search needs
+
+part-read-bytes-start : tie.Need-part-read-bytes-start
+part-read-bytes-start c = search needs
+
+part-read-bytes-end : tie.Need-part-read-bytes-end
+part-read-bytes-end c = search needs
+
+read-bytes-requires : tie.Need-read-bytes-requires
+read-bytes-requires c κs =
+    let w = c .before .before .before in
+    let s = w .before .before .before .before .before in
+    readable-to (s .pre .0) _ (omega (arith, mid-len (w .put-u32 .result) (w .put-u32 .result + s .args .n) (w .put-u32 .last .0) (omega arith)))
+
+padding-requires : tie.Need-padding-requires
+padding-requires c κs = search needs
+
+put-zeros-requires : tie.Need-put-zeros-requires
+put-zeros-requires c κs = search needs
+
+same-length : tie.Need-same-length
+same-length c = search needs
+
+returns : tie.Need-returns
+unfolding opaque
+returns c =
+    let z = c .before .before in
+    let r = z .before .before .before .before .before in
+    let w = r .before .before .before .before in
+    let s = w .before .before .before .before .before in
+    let room = s .pre .1 in
+    let w-place = w .put-u32 .ensures .place in
+    let w-kept = w .put-u32 .kept .0 in
+    λ sizes. rw (length-tab _ (s .args .n) (s .args .i))
+    (written-then (omega arith) (w .put-u32 .ensures)
+    (written-then (omega arith) (read-written _ (w .put-u32 .last .0) _ _ (w .put-u32 .result) (s .args .n) (omega arith) (r .read-bytes .ensures sizes))
+    (rw (z .before .padding .ensures) at (z .put-zeros .ensures))))
+
+pub put-file-bytes-spec : {M : Type 1} → statement M
+put-file-bytes-spec =
+    tie.close
+    (tie.spec
+    cast-put-u32
+    put-u32-requires
+    add-end
+    sub-read-bytes
+    part-read-bytes-start
+    part-read-bytes-end
+    read-bytes-requires
+    padding-requires
+    put-zeros-requires
+    same-length
+    returns)

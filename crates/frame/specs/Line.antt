@@ -1,5 +1,5 @@
 -- The program's lines (document 01, "A day's frames"; refusal 7). A line is a list of ASCII codes, without its newline.
-use Prim.Native.Nat.{ℕ, zero, _+_, _-_, _*_, _/_, _%_}
+use Prim.Native.Nat.{ℕ, _+_, _-_, _*_, _/_, _%_}
 use mathlib.Core.Bool.{cond, _&&_}
 use mathlib.Core.Option.{Option, none, some}
 use mathlib.Core.List.{List, [], _∷_}
@@ -22,21 +22,29 @@ digitValue c =
 abbrev pub digit : ℕ → ℕ
 digit n = cond (ltb n 10) (48 + n) (87 + n)
 
--- a byte of two digits in front of others
-abbrev pub byteFront : Option ℕ → Option ℕ → Option (List ℕ) → Option (List ℕ)
-byteFront none l bs = none
-byteFront (some h) none bs = none
-byteFront (some h) (some l) none = none
-byteFront (some h) (some l) (some bs) = some ((h * 16 + l) ∷ bs)
+-- the byte of two digits
+abbrev pub byteOf : Option ℕ → Option ℕ → Option ℕ
+byteOf none l = none
+byteOf (some h) none = none
+byteOf (some h) (some l) = some (h * 16 + l)
+
+-- a byte in front of others
+abbrev pub byteFront : Option ℕ → Option (List ℕ) → Option (List ℕ)
+byteFront none bs = none
+byteFront (some b) none = none
+byteFront (some b) (some bs) = some (b ∷ bs)
 
 -- the bytes of an even number of digits, if they are digits
 unfoldable pub lineBytes : List ℕ → Option (List ℕ)
 lineBytes [] = some []
 lineBytes (a ∷ []) = none
-lineBytes (a ∷ b ∷ cs) = byteFront (digitValue a) (digitValue b) (lineBytes cs)
+lineBytes (a ∷ b ∷ cs) = byteFront (byteOf (digitValue a) (digitValue b)) (lineBytes cs)
+
+abbrev pub byteDigits : ℕ → List ℕ
+byteDigits b = digit (b / 16) ∷ digit (b % 16) ∷ []
 
 unfoldable pub hexLine : List ℕ → List ℕ
-hexLine bs = concatMap (λ b. digit (b / 16) ∷ digit (b % 16) ∷ []) bs
+hexLine bs = concatMap byteDigits bs
 
 -- ---- a line's answer
 

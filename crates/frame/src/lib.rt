@@ -1,1 +1,2 @@
 // A line of hexadecimal in, a line out. The rules stand in specs/.
+mod hex;

@@ -26,8 +26,8 @@ use Rattle.store.proofs.GeometryLaws.{Good, good, block-pos, file-small}
 use Rattle.compound.specs.Status.{NOSPC, NOTSUPP, SEQUENCE-POS, OP-ILLEGAL}
 use Rattle.compound.specs.Operation.{Op, GETFH, RESTOREFH, SAVEFH, PUTFH, READ, READ-PLUS, WRITE, ALLOCATE, DEALLOCATE, SEEK, COPY, CLONE, Item, op, bad, itemAt, items, numberItem, argsItem, unserved, argsOf, Header, header}
 use Rattle.compound.specs.Run.{State, Event, failed, errors, effect, body, perform, reached, noFile, fileOf}
-use Rattle.compound.specs.Serve.{lastStore, fresh, headerStatus, compound, refusal, served, serve, Outcome}
-use Rattle.compound.specs.Claim.{Call, answer, machine, Contract, Trace, finish, step, Keeps, callEvents, history, Current, OK, SlotOf, GivesBack, target, Edits, Reserved, ReadAfter, ReadsBack, NospcExactly, Claim}
+use Rattle.compound.specs.Serve.{lastStore, fresh, headerStatus, compound, refusal, served, serve, Outcome, Gives}
+use Rattle.compound.specs.Claim.{Call, answer, machine, Trace, finish, step, Keeps, callEvents, history, Current, OK, SlotOf, GivesBack, target, Edits, Reserved, ReadAfter, ReadsBack, NospcExactly, Claim}
 use Rattle.compound.proofs.StepLaws.{Ready, effect-change, effect-ready, effect-r, Back, Performed, refused, nospc, done, performed, allocate-region, allocate-done, write-clear, write-has-room, write-done, read-clear, read-room, read-body}
 
 -- ---- operations that do not decode answer one of four statuses
@@ -192,8 +192,8 @@ module _ (g : Geometry) (pos : 0 < g .B) where
       go o (inl e) s ih = rw e s
       go o (inr m) s ih = ih m
 
-contract-is : {c : Call} {st : Store} {o : Outcome} → Contract c st o → o ≡ answer c st
-contract-is k = λ i. record {
+gives-is : (want o : Outcome) → Gives want o → o ≡ want
+gives-is want o k = λ i. record {
   number = k .number i;
   read = k .read i;
   written = k .written i;
@@ -205,7 +205,7 @@ contract-is k = λ i. record {
 trace-is : {st : Store} {cs : List Call} {os : List Outcome} → Trace st cs os → os ≡ machine st cs
 unfolding machine
 trace-is finish = refl
-trace-is (step e t) = rw (trace-is t, contract-is e)
+trace-is (step {st} {c} {o = o} e t) = rw (trace-is t, gives-is (answer c st) o e)
 
 -- ---- NOSPC exactly
 

@@ -1,4 +1,9 @@
 pub mod StepLaws
+pub mod RunLaws
+pub mod LeafLaws
+pub mod HandleOps
+pub mod EditOps
+pub mod CloneOps
 pub mod ClaimProof
 pub mod AnswerLaws
 pub mod ReplyLaws
@@ -9,3 +14,7 @@ pub mod Examples
 pub mod WrongServers
 pub mod ReplyReads
 pub mod DecodeLaws
+pub mod SpliceLaws
+pub mod ReadOps
+pub mod LoopLaws
+pub mod ServeLaws

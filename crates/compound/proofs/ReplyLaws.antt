@@ -85,7 +85,7 @@ module _ (g : Geometry) (pos : 0 < g .B) (st : Store) (f : ℕ) where
   read-most off n =
       simp (length-append, length-bool) (omega (arith, opaque-most (bytesFrom g st f off (readCount st f off n)) 2048 (rw (length-tab (byteAt g st f) (readCount st f off n) off) (omega arith)) refl))
 
-  read-plus-most : 512 ≤ g .B → sizeOf st f ≤ g .S * g .B → (off n : ℕ) → length (readPlusReply g st f off n) ≤ 2171
+  pub read-plus-most : 512 ≤ g .B → sizeOf st f ≤ g .S * g .B → (off n : ℕ) → length (readPlusReply g st f off n) ≤ 2171
   unfolding readPlusReply
   read-plus-most wide fits off n = simp (length-append, length-bool, length-u32) (omega (arith, all-most ps, few, total))
     where
@@ -129,7 +129,7 @@ module _ (g : Geometry) (wide : 512 ≤ g .B) (v : List ℕ) (hv : length v ≡ 
   body-most x s (COPY i j t o n ca sy) = simp (length-append, length-u32, length-u64, length-bool) (omega (arith, hv))
   body-most x s (CLONE i j t o n) = omega arith
 
-  result-most : (x : State) (r : Ready g x) (o : Op) (next : ℕ) → length (resultBytes (perform g v x o next)) ≤ 2179
+  pub result-most : (x : State) (r : Ready g x) (o : Op) (next : ℕ) → length (resultBytes (perform g v x o next)) ≤ 2179
   result-most x r o next = go (performed g v x o next)
     where
       go : {z : Event} → Performed g v x o next z → length (resultBytes z) ≤ 2179
@@ -182,7 +182,7 @@ none≢some : (f : ℕ) → _≡_ {A = Option ℕ} none (some f) → ⊥
 none≢some f e = let z : _≡_ {A = ℕ} 0 1 = cc in omega arith
 
 module _ (g : Geometry) (wide : 512 ≤ g .B) (v : List ℕ) (hv : length v ≡ 8) (st : Store) (snd : Sound g st) (s : List ℕ) (h : Header) (at : ℕ) where
-  results-most : length (concatMap resultBytes (compound g v st s h at)) ≤ 26148
+  pub results-most : length (concatMap resultBytes (compound g v st s h at)) ≤ 26148
   unfolding compound
   results-most = go (headerStatus h) refl
     where

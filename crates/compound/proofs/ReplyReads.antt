@@ -186,7 +186,7 @@ number-most (COPY i j s o n ca sy) = omega arith
 number-most (CLONE i j s o n) = omega arith
 
 -- an item that does not decode: its number and its status, which is not 0
-abbrev BadFits : Item → Type 0
+abbrev pub BadFits : Item → Type 0
 BadFits (op o next) = Unit {0}
 BadFits (bad k e) = (k ≤ 10044) × (1 ≤ e) × (e ≤ 10090)
 
@@ -223,7 +223,7 @@ unserved-high n h = simp (
 none≢some : {A : Type 0} {a : A} → _≡_ {A = Option A} none (some a) → ⊥
 none≢some e = let z : _≡_ {A = ℕ} 0 1 = cc in omega arith
 
-item-fits : (s : List ℕ) (at : ℕ) → BadFits (itemAt s at)
+pub item-fits : (s : List ℕ) (at : ℕ) → BadFits (itemAt s at)
 unfolding itemAt
 item-fits s at = go (number 4 s at)
   where

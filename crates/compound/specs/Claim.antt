@@ -17,7 +17,7 @@ use Rattle.store.specs.Calls.{first}
 use Rattle.compound.specs.Status.{NOSPC}
 use Rattle.compound.specs.Operation.{Op, READ, WRITE, ALLOCATE, DEALLOCATE, COPY, CLONE, GETFH, RESTOREFH, SAVEFH, PUTFH, READ-PLUS, SEEK, op, bad, header}
 use Rattle.compound.specs.Run.{State, Event, errors, effect}
-use Rattle.compound.specs.Serve.{Outcome, compound, refusal, serve}
+use Rattle.compound.specs.Serve.{Outcome, Gives, compound, refusal, serve}
 
 -- ---- lists of calls
 
@@ -37,16 +37,10 @@ unfoldable pub machine : Store → List Call → List Outcome
 machine st [] = []
 machine st (c ∷ cs) = answer c st ∷ machine (answer c st .store) cs
 
--- What the contract of the call promises of an outcome. The code's `ensures` is this record: of the result's three numbers, of the reply buffer
--- at exit and of the three tables at exit.
-pub record Contract (c : Call) (st : Store) (o : Outcome) : Type 0 where
-  pub number : o .number ≡ answer c st .number
-  pub read : o .read ≡ answer c st .read
-  pub written : o .written ≡ answer c st .written
-  pub reply : o .reply ≡ answer c st .reply
-  pub sizes : o .store .sizes ≡ answer c st .store .sizes
-  pub words : o .store .words ≡ answer c st .store .words
-  pub mem : o .store .mem ≡ answer c st .store .mem
+-- What the contract of the call promises of an outcome: it is the rules'. The code's `ensures` is this, of the result's three numbers, of
+-- the reply buffer at exit and of the three tables at exit.
+abbrev pub Contract : Call → Store → Outcome → Type 0
+Contract c st o = Gives (answer c st) o
 
 -- a list of calls and what came of them: each call gets the store as the last one left it
 pub data Trace : Store → List Call → List Outcome → Type 0 where

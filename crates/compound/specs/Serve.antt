@@ -1,5 +1,6 @@
 -- The reply and the call that serves a compound (document 01, "Numbers of a refused call" and "The compound").
 use Prim.Native.Nat.{ℕ, zero, suc, _+_, _-_}
+use mathlib.Core.Path.{_≡_}
 use mathlib.Core.Bool.{Bool, _&&_, not}
 use mathlib.Core.Option.{none}
 use mathlib.Core.List.{List, [], _∷_, _++_}
@@ -67,6 +68,16 @@ pub record Outcome : Type 0 where
   pub written : ℕ
   pub reply : List ℕ
   pub store : Store
+
+-- an outcome that is the rules': number, counts, reply buffer and every table
+pub record Gives (want o : Outcome) : Type 0 where
+  pub number : o .number ≡ want .number
+  pub read : o .read ≡ want .read
+  pub written : o .written ≡ want .written
+  pub reply : o .reply ≡ want .reply
+  pub sizes : o .store .sizes ≡ want .store .sizes
+  pub words : o .store .words ≡ want .store .words
+  pub mem : o .store .mem ≡ want .store .mem
 
 abbrev pub refuse : ℕ → List ℕ → Store → Outcome
 refuse k buf st = record { number = k; read = 0; written = 0; reply = buf; store = st }

@@ -98,6 +98,9 @@ impl Operation {
 
     pub const MAX_OPS: u32 = 12;
 
+    // Bytes that a READ grants at most.
+    pub const MAX_READ: u32 = 2048;
+
     // What decoding answers.
     pub const NOTSUPP: u32 = 10004;
 

@@ -1,0 +1,168 @@
+-- WRITE, ALLOCATE and DEALLOCATE: the ways out of their tests, what their edits ask and leave, and their answers.
+use Prim.Native.Nat.{ℕ, _+_, _-_, _*_, _^_, _≤_, _<_, min}
+use mathlib.Core.Path.{_≡_, refl, sym, ap, _∙_}
+use mathlib.Core.Bool.{Bool, true, false, cond, _&&_}
+use mathlib.Core.Option.{Option, none, some}
+use mathlib.Core.List.{List, [], _++_}
+use mathlib.Core.Logic.{_≢_}
+use native.Mathlib.Omega.{arith}
+use borrow.Author.Tests.{ltb-false, leb-false, eqb-false, lt-ltb}
+use lib.ListN.{length, getD, drop, length-take, length-drop}
+use lib.Dec.{ltb}
+use Rattle.xdr.specs.declared.bytes.Span.{Span}
+use Rattle.xdr.specs.Bytes.{partOf, Written}
+use Rattle.xdr.specs.Encode.{u32}
+use Rattle.store.specs.Geometry.{Geometry}
+use Rattle.store.specs.Store.{Store}
+use Rattle.store.specs.Calls.{first}
+use Rattle.store.specs.Write.{editWrite}
+use Rattle.store.specs.Allocate.{editAllocate}
+use Rattle.store.specs.Deallocate.{editDeallocate}
+use Rattle.store.specs.Edits.{EditKnown, WriteKnown, RegionKnown}
+use Rattle.store.proofs.FirstLaws.{all-clear}
+use Rattle.store.proofs.GeometryLaws.{good, lengths}
+use Rattle.compound.specs.declared.answer.Handle.{Handle}
+use Rattle.compound.specs.declared.answer.Answer.{Answer}
+use Rattle.compound.specs.Status.{NOFILEHANDLE}
+use Rattle.compound.specs.Operation.{Op, WRITE, ALLOCATE, DEALLOCATE, opNumber}
+use Rattle.compound.specs.Run.{State, Event, noFile, errors, effect, body, writeResult, fileSync, perform}
+use Rattle.compound.specs.Runner.{fileIn, stateOf, Runs, Done, Bare, Answered}
+use Rattle.compound.proofs.RunLaws.{edit-failed, failed-answer, plain-answer, body-answer}
+
+-- ---- the tests, in order
+
+-- k is the number of the first that holds: of this one, or of those behind it
+pub hit : {t : Bool} {k : ℕ} (r : ℕ) → t ≡ true → k ≡ cond t k r
+hit r e = rw e
+
+pub miss : {t : Bool} {k r : ℕ} (e : ℕ) → t ≡ false → k ≡ r → k ≡ cond t e r
+miss e h q = rw (h, q)
+
+pub has-file : {u : Option ℕ} {f : ℕ} → u ≡ some f → noFile u ≡ false
+has-file e = ap noFile e
+
+-- ---- what an edit asks
+
+fits-from : (g : Geometry) (o n : ℕ) → (ltb 0 n && ltb (g .S * g .B) (o + n)) ≡ false → 0 < n → o + n ≤ g .S * g .B
+fits-from g o n h l = ltb-false (g .S * g .B) (o + n) (rw (lt-ltb 0 n l) at h)
+
+-- where a file is current, e is the operation's first error
+module _ {g : Geometry} {st : Store} {counts : List ℕ} {f : ℕ} (k : EditKnown g st counts f) {e : ℕ} (ok : e ≡ 0) where
+  abbrev opened : State
+  opened = record { current = some f; saved = none; store = st }
+
+  abbrev pub Told : Op → Type 0
+  Told o = (x : State) → noFile (x .current) ≡ false → e ≡ first (errors g x o)
+
+  clear : (o : Op) → Told o → first (errors g opened o) ≡ 0
+  clear o told = sym (told opened refl) ∙ ok
+
+  pub write-known : (i : List ℕ) (o s : ℕ) (d : List ℕ) {part : List ℕ} → part ≡ d → Told (WRITE i o s d) → WriteKnown g st counts f o (length part)
+  unfolding errors
+  write-known i o s d is told =
+      let c = all-clear (errors g opened (WRITE i o s d)) refl (clear (WRITE i o s d) told) in
+      rw is record { known = k; fits = fits-from g o (length d) (c .1 .1 .1 .0) }
+
+  pub allocate-known : (i : List ℕ) (o n : ℕ) → Told (ALLOCATE i o n) → RegionKnown g st counts f o (o + n)
+  unfolding errors
+  allocate-known i o n told =
+      let c = all-clear (errors g opened (ALLOCATE i o n)) refl (clear (ALLOCATE i o n) told) in
+      let l : 0 < n = omega (arith, eqb-false n 0 (c .1 .1 .1 .0)) in
+      record { known = k; some = omega arith; fits = fits-from g o n (c .1 .1 .1 .1 .0) l }
+
+  pub deallocate-sum : (i : List ℕ) (o n : ℕ) → Told (DEALLOCATE i o n) → o + n < 2 ^ 64
+  unfolding errors
+  deallocate-sum i o n told =
+      let c = all-clear (errors g opened (DEALLOCATE i o n)) refl (clear (DEALLOCATE i o n) told) in
+      leb-false (2 ^ 64) (o + n) (c .1 .1 .0)
+
+-- a file's place in the table of sizes
+module _ {g : Geometry} {st : Store} {counts : List ℕ} {f : ℕ} (k : EditKnown g st counts f) where
+  pub file-few : f ≤ 64
+  file-few = omega (arith, k .file, good g (k .shaped .geometry) .files-most)
+
+  pub file-size : f < length (st .sizes)
+  file-size = omega (arith, k .file, lengths g st (k .shaped .lengths) .files)
+
+-- ---- what an edit leaves
+
+module _ (g : Geometry) (x : State) {f : ℕ} {st : Store} (current : x .current ≡ some f) (same : x .store ≡ st) where
+  pub write-leaves : (i : List ℕ) (o s : ℕ) (d : List ℕ) {part : List ℕ} → part ≡ d
+      → effect g x (WRITE i o s d) .store ≡ editWrite g st f o (o + length part) (λ p. getD part (p - o) 0)
+  unfolding effect
+  write-leaves i o s d e = rw (current, same, e)
+
+  pub allocate-leaves : (i : List ℕ) (o n : ℕ) → effect g x (ALLOCATE i o n) .store ≡ editAllocate g st f o (o + n)
+  unfolding effect
+  allocate-leaves i o n = rw (current, same)
+
+  pub deallocate-leaves : (i : List ℕ) (o n : ℕ) {end : ℕ} → end ≡ min (o + n) (getD (st .sizes) f 0)
+      → effect g x (DEALLOCATE i o n) .store ≡ editDeallocate g st f o end
+  unfolding effect
+  deallocate-leaves i o n e = rw (current, same, e)
+
+-- ---- the answer
+
+-- an operation that asks for a current file first, and leaves the handles
+pub record OnFile (g : Geometry) (x : State) (o : Op) : Type 0 where
+  pub refused : x .current ≡ none → first (errors g x o) ≡ NOFILEHANDLE
+  pub current-stays : effect g x o .current ≡ x .current
+  pub saved-stays : effect g x o .saved ≡ x .saved
+
+module _ (g : Geometry) (x : State) where
+  pub write-on : (i : List ℕ) (o s : ℕ) (d : List ℕ) → OnFile g x (WRITE i o s d)
+  unfolding errors effect
+  write-on i o s d = record { refused = λ e. rw e; current-stays = refl; saved-stays = refl }
+
+  pub allocate-on : (i : List ℕ) (o n : ℕ) → OnFile g x (ALLOCATE i o n)
+  unfolding errors effect
+  allocate-on i o n = record { refused = λ e. rw e; current-stays = refl; saved-stays = refl }
+
+  pub deallocate-on : (i : List ℕ) (o n : ℕ) → OnFile g x (DEALLOCATE i o n)
+  unfolding errors effect
+  deallocate-on i o n = record { refused = λ e. rw e; current-stays = refl; saved-stays = refl }
+
+module _ (g : Geometry) (v : List ℕ) (current saved : Handle) (st : Store) (o : Op) (next : ℕ) where
+  abbrev pub here : State
+  here = stateOf current saved st
+
+  abbrev pub event : Event
+  event = perform g v here o next
+
+  module _ (on : OnFile g here o) {at : ℕ} {before reply : List ℕ} where
+    -- no file is current
+    pub unopened : {s counts : List ℕ} {r : Answer} → Runs g v s here counts before at → current ≡ Handle.Nothing
+        → Bare (opNumber o) NOFILEHANDLE current saved r at before reply → Answered event r st counts at before reply
+    unopened k e b =
+        let some-error : NOFILEHANDLE ≢ 0 = λ q. omega (arith, q) in
+        failed-answer g v here o next current saved refl refl (on .current-stays) (on .saved-stays)
+        (edit-failed g v here o next st refl NOFILEHANDLE (on .refused (ap fileIn e)) some-error (k .counted)) some-error b
+
+    -- file f is
+    module _ {f : ℕ} (e : current ≡ Handle.File f) {after : Store} {counts : List ℕ} {status : ℕ} (d : Done event status after counts) where
+      -- an error
+      pub opened-failed : {r : Answer} → status ≢ 0 → Bare (opNumber o) status (Handle.File f) saved r at before reply → Answered event r after counts at before reply
+      opened-failed n b = failed-answer g v here o next (Handle.File f) saved (sym (ap fileIn e)) refl (on .current-stays) (on .saved-stays) d n b
+
+      -- a result that never has a body
+      pub opened-plain : {r : Answer} → body g v here o ≡ [] → Bare (opNumber o) status (Handle.File f) saved r at before reply
+          → Answered event r after counts at before reply
+      opened-plain n b = plain-answer g v here o next (Handle.File f) saved (sym (ap fileIn e)) refl (on .current-stays) (on .saved-stays) d n b
+
+      -- a result with its body
+      pub opened-body : {n p q : ℕ} {b mid : List ℕ} → status ≡ 0 → body g v here o ≡ b → at ≤ length before
+          → Written (u32 (opNumber o) ++ u32 0) 8 at before mid p → Written b n p mid reply q
+          → Answered event (record { status = 0; next = q; current = Handle.File f; saved = saved }) after counts at before reply
+      opened-body z is h w r =
+          body-answer g v here o next (Handle.File f) saved (sym (ap fileIn e)) refl (on .current-stays) (on .saved-stays) (rw z at d) is h w r
+
+-- ---- WRITE's body
+
+pub write-body : (g : Geometry) (v : List ℕ) (x : State) (i : List ℕ) (o s : ℕ) (d : List ℕ) {part : List ℕ} → part ≡ d
+    → body g v x (WRITE i o s d) ≡ writeResult .write (length part, (fileSync, v))
+unfolding body
+write-body g v x i o s d e = rw e
+
+pub part-few : (s : List ℕ) (d : Span) {part : List ℕ} → part ≡ partOf s d → length s ≤ 65536 → length part ≤ 65536
+unfolding partOf
+part-few s d e h = rw (e, length-take (d .len) (drop (d .start) s), length-drop (d .start) s) (omega arith)

@@ -1,0 +1,281 @@
+-- The run of a compound: one operation after the other, and what they come to.
+use Prim.Native.Nat.{ℕ, zero, suc, _+_, _-_, _*_, _≤_, _<_}
+use mathlib.Core.Path.{_≡_, refl, sym, ap, _∙_, subst}
+use mathlib.Core.Bool.{true}
+use mathlib.Core.Option.{Option, none, some}
+use mathlib.Core.List.{List, [], _∷_, _++_, append-assoc, append-nil}
+use mathlib.Core.Logic.{_≢_}
+use native.Mathlib.Omega.{arith}
+use native.Mathlib.Nat.{add-zero}
+use lib.ListN.{length, length-append, take, drop, take-append-drop}
+use Rattle.xdr.specs.Bytes.{splice, Written}
+use Rattle.xdr.specs.Encode.{u32, concatMap}
+use Rattle.xdr.proofs.BytesLaws.{length-splice, written-then}
+use Rattle.xdr.proofs.EncodeLaws.{length-u32}
+use Rattle.store.specs.Geometry.{Geometry, goodGeometry}
+use Rattle.store.specs.Store.{Store, goodLengths}
+use Rattle.store.specs.Sound.{sound}
+use Rattle.store.specs.Tables.{Shaped}
+use Rattle.store.specs.Plan.{Counted}
+use Rattle.store.proofs.FileLaws.{Sound}
+use Rattle.store.proofs.GeometryLaws.{good, block-pos}
+use Rattle.store.proofs.SoundLaws.{sound-facts, lengths-test, sound-test}
+use Rattle.compound.specs.declared.answer.Handle.{Handle}
+use Rattle.compound.specs.declared.run.Progress.{Progress}
+use Rattle.compound.specs.Operation.{Op, Item, op, bad, itemAt, items}
+use Rattle.compound.specs.Run.{State, Event, failed, perform, reached}
+use Rattle.compound.specs.Serve.{resultBytes, placeAfter, lastPlace, lastOf, lastStatus, lastStore, fresh}
+use Rattle.compound.specs.Runner.{fileIn, stateOf, Known, Runs, Done, eventAt, Turned, RunsAll, RanAll}
+use Rattle.compound.proofs.StepLaws.{Ready, effect-ready, Performed, refused, nospc, done, performed}
+use Rattle.compound.proofs.RunLaws.{perform-item}
+use Rattle.compound.proofs.ReplyLaws.{result-most}
+use Rattle.compound.proofs.ReplyReads.{BadFits, item-fits}
+
+-- ---- what stays known
+
+pub known-ready : {g : Geometry} {x : State} → Known g x → Ready g x
+known-ready {g} {x} k = record {
+  sound = sound-facts g (block-pos (good g (k .shaped .geometry))) (x .store) (k .shaped .lengths) (k .sound);
+  current = k .current;
+  saved = k .saved;
+}
+
+ready-known : {g : Geometry} {x : State} → goodGeometry g ≡ true → Ready g x → Known g x
+ready-known {g} {x} e r = record {
+  shaped = record { geometry = e; lengths = lengths-test g (block-pos (good g e)) (x .store) (r .sound) };
+  sound = sound-test g (block-pos (good g e)) (x .store) (r .sound);
+  current = r .current;
+  saved = r .saved;
+}
+
+-- ---- one event
+
+-- what stands at place `at`, reached in state x: the state after it, the length of its result, and the run from it on
+record Stands (g : Geometry) (v s : List ℕ) (x : State) (at : ℕ) (z : Event) : Type 0 where
+  known : Known g (z .after)
+  short : length (resultBytes z) ≤ 2179
+  on : z .status ≡ 0 → (n : ℕ) → reached g v x (items s (suc n) at) ≡ z ∷ reached g v (z .after) (items s n (placeAfter at (z .item)))
+  off : z .status ≢ 0 → (n : ℕ) → reached g v x (items s (suc n) at) ≡ z ∷ []
+
+module _ (g : Geometry) (v s : List ℕ) (hv : length v ≡ 8) (x : State) (k : Known g x) (at : ℕ) where
+  r : Ready g x
+  r = known-ready k
+
+  pos : 0 < g .B
+  pos = block-pos (good g (k .shaped .geometry))
+
+  after-known : (o : Op) (next : ℕ) {z : Event} → Performed g v x o next z → Known g (z .after)
+  after-known o next (refused e h) = k
+  after-known o next (nospc h l) = k
+  after-known o next (done h l) = ready-known (k .shaped .geometry) (effect-ready g pos x r o h l)
+
+  reached-at : (i : Item) → itemAt s at ≡ i → (n : ℕ)
+      → reached g v x (items s (suc n) at) ≡ reached g v x (elim i [ op o next ↦ op o next ∷ items s n next | bad k e ↦ bad k e ∷ [] ])
+  unfolding items
+  reached-at i e n = rw (e, items)
+
+  -- the events from z on, by its status
+  abbrev from : Event → List Item → ℕ → List Event
+  from z is zero = z ∷ reached g v (z .after) is
+  from z is (suc n) = z ∷ []
+
+  reached-from : (o : Op) (next : ℕ) (is : List Item) → reached g v x (op o next ∷ is) ≡ from (perform g v x o next) is (perform g v x o next .status)
+  unfolding reached
+  reached-from o next is = go (perform g v x o next) (perform g v x o next .status)
+    where
+      go : (z : Event) (n : ℕ) → _≡_ {A = List Event} (elim n [ zero ↦ z ∷ reached g v (z .after) is | suc e ↦ z ∷ [] ]) (from z is n)
+      go z zero = refl
+      go z (suc n) = refl
+
+  bad-stops : (j e : ℕ) (is : List Item) → reached g v x (bad j e ∷ is) ≡ failed (bad j e) x e ∷ []
+  unfolding reached
+  bad-stops j e is = refl
+
+  stands-at : Stands g v s x at (eventAt g v x s at)
+  unfolding eventAt
+  stands-at = go (itemAt s at) refl
+    where
+      off-by : (z : Event) (is : List Item) (n : ℕ) → n ≢ 0 → from z is n ≡ z ∷ []
+      off-by z is zero h = absurd (h refl)
+      off-by z is (suc n) h = refl
+
+      go : (i : Item) → itemAt s at ≡ i → Stands g v s x at (elim i [ op o next ↦ perform g v x o next | bad k e ↦ failed (bad k e) x e ])
+      go (op o next) e = record {
+        known = after-known o next (performed g v x o next);
+        short = result-most g (good g (k .shaped .geometry) .block) v hv x r o next;
+        on = λ h n. reached-at (op o next) e n ∙ reached-from o next (items s n next)
+            ∙ ap (from (perform g v x o next) (items s n next)) h
+            ∙ ap (λ i. perform g v x o next ∷ reached g v (perform g v x o next .after) (items s n (placeAfter at i))) (sym (perform-item g v x o next));
+        off = λ h n. reached-at (op o next) e n ∙ reached-from o next (items s n next)
+            ∙ off-by (perform g v x o next) (items s n next) (perform g v x o next .status) h;
+      }
+      go (bad j e) q = record {
+        known = k;
+        short = simp (length-append, length-u32) (omega arith);
+        on = λ h n. absurd (omega (arith, h, subst BadFits q (item-fits s at) .1));
+        off = λ h n. reached-at (bad j e) q n ∙ bad-stops j e [];
+      }
+
+-- ---- the events so far
+
+last-end : {A : Type 0} (f : Event → A) (a : A) (zs : List Event) (z : Event) → lastOf f a (zs ++ (z ∷ [])) ≡ f z
+last-end f a [] z = refl
+last-end f a (y ∷ zs) z = last-end f (f y) zs z
+
+place-end : (at : ℕ) (zs : List Event) (z : Event) → lastPlace at (zs ++ (z ∷ [])) ≡ placeAfter (lastPlace at zs) (z .item)
+place-end at [] z = refl
+place-end at (y ∷ zs) z = place-end (placeAfter at (y .item)) zs z
+
+results-end : (zs : List Event) (z : Event) → concatMap resultBytes (zs ++ (z ∷ [])) ≡ concatMap resultBytes zs ++ resultBytes z
+results-end [] z = append-nil (resultBytes z)
+results-end (y ∷ zs) z = ap (λ t. resultBytes y ++ t) (results-end zs z) ∙ sym (append-assoc (resultBytes y) (concatMap resultBytes zs) (resultBytes z))
+
+-- what came of them, while the run goes on or at its end
+pub record Sofar (st : Store) (at out : ℕ) (before : List ℕ) (zs : List Event) (r : Progress) (after : Store) (reply : List ℕ) : Type 0 where
+  pub ran : RanAll zs st at out r after before reply
+  pub place : r .out ≤ out + 2179 * r .count
+
+start-sofar : (st : Store) (at out : ℕ) (reply : List ℕ) → out ≤ length reply
+    → Sofar st at out reply [] (record { status = 0; count = 0; read = at; out = out; current = Handle.Nothing; saved = Handle.Nothing }) st reply
+unfolding splice
+start-sofar st at out reply h = record {
+  ran = record {
+    status-is = refl;
+    count-is = refl;
+    read-is = refl;
+    sizes-are = refl;
+    words-are = refl;
+    mem-is = refl;
+    written = record { bytes = rw (add-zero out) (sym (take-append-drop out reply)); size = refl; place = omega arith };
+  };
+  place = omega arith;
+}
+
+-- one more
+more-sofar : {st after after′ : Store} {at out : ℕ} {before reply reply′ counts : List ℕ} (zs : List Event) (z : Event) {r r′ : Progress}
+    → Sofar st at out before zs r after reply → out ≤ length before → Turned z r r′ after′ counts reply reply′ → length (resultBytes z) ≤ 2179
+    → Sofar st at out before (zs ++ (z ∷ [])) r′ after′ reply′
+more-sofar {st} {after} {after′} {at} {out} {before} zs z {r} {r′} d long t short =
+    let both = written-then long (d .ran .written) (t .written) in
+    record {
+      ran = record {
+        status-is = t .done .status-is ∙ sym (last-end (λ y. y .status) 0 zs z);
+        count-is = t .count-is ∙ omega (arith, d .ran .count-is, length-append zs (z ∷ []));
+        read-is = t .read-is ∙ ap (λ p. placeAfter p (z .item)) (d .ran .read-is) ∙ sym (place-end at zs z);
+        sizes-are = t .done .sizes-are ∙ ap (λ (u : Store). u .sizes) (sym (last-end (λ y. y .after .store) st zs z));
+        words-are = t .done .words-are ∙ ap (λ (u : Store). u .words) (sym (last-end (λ y. y .after .store) st zs z));
+        mem-is = t .done .mem-is ∙ ap (λ (u : Store). u .mem) (sym (last-end (λ y. y .after .store) st zs z));
+        written = rw (results-end zs z) (record { bytes = both .bytes; size = refl; place = both .place ∙ ap (λ n. out + n) (sym (both .size)) });
+      };
+      place = omega (arith, d .place, t .written .place, t .count-is, short);
+    }
+
+-- ---- the loop
+
+-- before each turn: the events so far, then those of the run that is left, are all of them
+pub record Held (g : Geometry) (v s : List ℕ) (st : Store) (ops at out : ℕ) (before : List ℕ) (x : State) (counts reply : List ℕ) (r : Progress) : Type 0 where
+  pub zs : List Event
+  pub sofar : Sofar st at out before zs r (x .store) reply
+  pub left : reached g v (fresh st) (items s ops at) ≡ zs ++ reached g v x (items s (ops - r .count) (r .read))
+  pub within : r .count ≤ ops
+  pub known : Known g x
+  pub counted : Counted (x .store .words) counts
+  pub blocks : length counts ≡ g .N
+  pub sizes-long : length (x .store .sizes) ≡ length (st .sizes)
+  pub words-long : length (x .store .words) ≡ length (st .words)
+  pub mem-long : length (x .store .mem) ≡ length (st .mem)
+  pub long : length reply ≡ length before
+
+no-handle : (g : Geometry) (f : ℕ) → _≡_ {A = Option ℕ} none (some f) → f < g .F
+no-handle g f e = absurd (let z : _≡_ {A = ℕ} 0 1 = cc in omega arith)
+
+state-is : {z : Event} {r′ : Progress} {after : Store} {counts before reply : List ℕ} {r : Progress} → Turned z r r′ after counts before reply
+    → z .after ≡ stateOf (r′ .current) (r′ .saved) after
+state-is t = λ i. record {
+  current = sym (t .current-is) i;
+  saved = sym (t .saved-is) i;
+  store = record { sizes = sym (t .done .sizes-are) i; words = sym (t .done .words-are) i; mem = sym (t .done .mem-is) i };
+}
+
+module _ {g : Geometry} {v s : List ℕ} {st : Store} {ops at out : ℕ} {before counts₀ : List ℕ} (a : RunsAll g v s st counts₀ ops before out) where
+  pub held-start : Held g v s st ops at out before (fresh st) counts₀ before
+      (record { status = 0; count = 0; read = at; out = out; current = Handle.Nothing; saved = Handle.Nothing })
+  held-start = let all : ops ≡ ops - 0 = omega arith in record {
+    zs = [];
+    sofar = start-sofar st at out before (omega (arith, a .room));
+    left = ap (λ (m : ℕ). reached g v (fresh st) (items s m at)) all;
+    within = omega arith;
+    known = record { shaped = a .shaped; sound = a .sound; current = no-handle g; saved = no-handle g };
+    counted = a .counted;
+    blocks = a .blocks;
+    sizes-long = refl;
+    words-long = refl;
+    mem-long = refl;
+    long = refl;
+  }
+
+  module _ {counts reply : List ℕ} {r : Progress} {st₁ : Store} (h : Held g v s st ops at out before (stateOf (r .current) (r .saved) st₁) counts reply r) where
+    pub held-runs : r .count < ops → Runs g v s (stateOf (r .current) (r .saved) st₁) counts reply (r .out) × (r .count < 12)
+    held-runs l = (
+      record {
+        known = h .known;
+        counted = h .counted;
+        blocks = h .blocks;
+        verifier = a .verifier;
+        request = a .request;
+        room = omega (arith, a .room, a .few, h .sofar .place, h .long, l);
+      },
+      omega (arith, a .few, l),
+    )
+
+    pub held-end : ops ≤ r .count → RanAll (reached g v (fresh st) (items s ops at)) st at out r st₁ before reply
+    unfolding items reached
+    held-end l =
+        let none-left : ops - r .count ≡ 0 = omega arith in
+        rw (h .left, none-left, append-nil (h .zs)) (h .sofar .ran)
+
+    module _ (l : r .count < ops) {r′ : Progress} {after : Store} {counts′ reply′ : List ℕ}
+        (t : Turned (eventAt g v (stateOf (r .current) (r .saved) st₁) s (r .read)) r r′ after counts′ reply reply′) where
+      abbrev z : Event
+      z = eventAt g v (stateOf (r .current) (r .saved) st₁) s (r .read)
+
+      stands : Stands g v s (stateOf (r .current) (r .saved) st₁) (r .read) z
+      stands = stands-at g v s (a .verifier) (stateOf (r .current) (r .saved) st₁) (h .known) (r .read)
+
+      step-left : ops - r .count ≡ suc (ops - r′ .count)
+      step-left = omega (arith, l, t .count-is)
+
+      sofar-more : Sofar st at out before (h .zs ++ (z ∷ [])) r′ after reply′
+      sofar-more = more-sofar (h .zs) z (h .sofar) (omega (arith, a .room)) t (stands .short)
+
+      pub held-stop : r′ .status ≢ 0 → RanAll (reached g v (fresh st) (items s ops at)) st at out r′ after before reply′
+      held-stop n =
+          let fails : z .status ≢ 0 = λ e. n (t .done .status-is ∙ e) in
+          let all : reached g v (fresh st) (items s ops at) ≡ h .zs ++ (z ∷ []) =
+          h .left ∙ ap (λ m. h .zs ++ reached g v (stateOf (r .current) (r .saved) st₁) (items s m (r .read))) step-left
+          ∙ ap (λ y. h .zs ++ y) (stands .off fails (ops - r′ .count)) in
+          rw all (sofar-more .ran)
+
+      pub held-more : r′ .status ≡ 0 → length (after .sizes) ≡ length (st₁ .sizes) → length (after .words) ≡ length (st₁ .words)
+          → length (after .mem) ≡ length (st₁ .mem) → length counts′ ≡ length counts → length reply′ ≡ length reply
+          → Held g v s st ops at out before (stateOf (r′ .current) (r′ .saved) after) counts′ reply′ r′
+      held-more e hs hw hm hc hr =
+          let goes : z .status ≡ 0 = sym (t .done .status-is) ∙ e in
+          record {
+            zs = h .zs ++ (z ∷ []);
+            sofar = sofar-more;
+            left =
+                h .left ∙ ap (λ m. h .zs ++ reached g v (stateOf (r .current) (r .saved) st₁) (items s m (r .read))) step-left
+                ∙ ap (λ y. h .zs ++ y) (stands .on goes (ops - r′ .count))
+                ∙ ap (λ y. h .zs ++ (z ∷ reached g v y (items s (ops - r′ .count) (placeAfter (r .read) (z .item))))) (state-is t)
+                ∙ ap (λ p. h .zs ++ (z ∷ reached g v (stateOf (r′ .current) (r′ .saved) after) (items s (ops - r′ .count) p))) (sym (t .read-is))
+                ∙ sym (append-assoc (h .zs) (z ∷ []) (reached g v (stateOf (r′ .current) (r′ .saved) after) (items s (ops - r′ .count) (r′ .read))));
+            within = omega (arith, l, t .count-is);
+            known = subst (Known g) (state-is t) (stands .known);
+            counted = t .done .counted;
+            blocks = hc ∙ h .blocks;
+            sizes-long = hs ∙ h .sizes-long;
+            words-long = hw ∙ h .words-long;
+            mem-long = hm ∙ h .mem-long;
+            long = hr ∙ h .long;
+          }

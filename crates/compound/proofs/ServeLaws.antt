@@ -1,0 +1,228 @@
+-- The call that serves a compound: its refusals one by one, and the reply of the operations reached.
+use Prim.Native.Nat.{ℕ, zero, suc, _+_, _-_, _≤_, _<_}
+use mathlib.Core.Path.{_≡_, refl, sym, ap, _∙_, subst}
+use mathlib.Core.Bool.{Bool, true, false, cond, not}
+use mathlib.Core.List.{List, [], _∷_, _++_, append-nil}
+use mathlib.Core.Logic.{_≢_}
+use native.Mathlib.Omega.{arith}
+use native.Mathlib.Nat.{zero-add}
+use borrow.Author.Tests.{lt-ltb, le-ltb, ltb-false, eq-eqb, ne-eqb}
+use lib.ListN.{length, take, drop, length-append, length-replicate}
+use lib.Dec.{ltb, eqb}
+use Rattle.xdr.specs.declared.bytes.Span.{Span}
+use Rattle.xdr.specs.Bytes.{partOf, splice, Written}
+use Rattle.xdr.specs.Encode.{u32, opaque, opaqueSize, padBytes, concatMap}
+use Rattle.xdr.specs.Decode.{got, fault}
+use Rattle.store.specs.Geometry.{Geometry, goodGeometry}
+use Rattle.store.specs.Store.{Store, goodLengths}
+use Rattle.store.specs.Sound.{sound}
+use Rattle.store.specs.Tables.{Shaped, Tallied}
+use Rattle.store.specs.Calls.{first, storeRefusal}
+use Rattle.store.specs.Survey.{TableReady, Surveyed}
+use Rattle.store.proofs.GeometryLaws.{good, block-pos}
+use Rattle.store.proofs.SoundLaws.{sound-facts}
+use Rattle.store.proofs.EditLaws.{sound-counted}
+use Rattle.store.proofs.FirstLaws.{all-clear}
+use Rattle.compound.specs.declared.serving.Served.{Served}
+use Rattle.compound.specs.declared.run.Progress.{Progress}
+use Rattle.compound.specs.Status.{MINOR-VERS-MISMATCH, TOO-MANY-OPS}
+use Rattle.compound.specs.Operation.{items, Header, header}
+use Rattle.compound.specs.Run.{Event, reached}
+use Rattle.compound.specs.Serve.{resultBytes, replyBytes, lastStatus, fresh, headerStatus, compound, Outcome, Gives, refuse, served, refusals, refusal, serve}
+use Rattle.compound.specs.Claim.{Call, answer, Contract}
+use Rattle.compound.specs.Runner.{Serves, RunsAll, RanAll, headerOf}
+use Rattle.compound.proofs.SpliceLaws.{written-before}
+use Rattle.compound.proofs.ReplyLaws.{header-reads, results-most}
+
+-- ---- the reply
+
+-- written from the first byte on, bytes past them unchanged
+whole-reply : {bs : List ℕ} {n w : ℕ} {buf reply : List ℕ} → Written bs n 0 buf reply w → (reply ≡ bs ++ drop (length bs) buf) × (w ≡ length bs)
+unfolding splice
+whole-reply {bs} {buf = buf} w = (w .bytes ∙ ap (λ (k : ℕ). bs ++ drop k buf) (zero-add (length bs)), omega (arith, w .place, w .size))
+
+module _ (g : Geometry) (v s : List ℕ) (st : Store) (buf : List ℕ) (h : Header) (at : ℕ) where
+  events-none : (e : ℕ) → headerStatus h ≡ e → e ≢ 0 → compound g v st s h at ≡ []
+  unfolding compound
+  events-none zero q n = absurd (n refl)
+  events-none (suc e) q n = rw (q, compound)
+
+  events-some : headerStatus h ≡ 0 → compound g v st s h at ≡ reached g v (fresh st) (items s (h .ops) at)
+  unfolding compound
+  events-some q = rw (q, compound)
+
+  -- a compound that is refused as a whole
+  pub served-none : (e : ℕ) → headerStatus h ≡ e → e ≢ 0 → {n w : ℕ} {reply : List ℕ} → Written (u32 e ++ opaque (h .tag) ++ u32 0) n 0 buf reply w
+      → Gives (served buf st h at (compound g v st s h at)) (record { number = 0; read = at; written = w; reply = reply; store = st })
+  unfolding served replyBytes
+  served-none e q n {reply = reply} w =
+      let is : replyBytes (headerStatus h) (h .tag) [] ≡ u32 e ++ opaque (h .tag) ++ u32 0 = rw (q, replyBytes) (append-nil (u32 e ++ opaque (h .tag) ++ u32 0)) in
+      let all = whole-reply w in
+      rw (events-none e q n) (record {
+        number = refl;
+        read = refl;
+        written = all .1 ∙ ap length (sym is);
+        reply = all .0 ∙ ap (λ (l : List ℕ). l ++ drop (length l) buf) (sym is);
+        sizes = refl;
+        words = refl;
+        mem = refl;
+      })
+
+  -- the head in front of the results of a run
+  pub served-some : headerStatus h ≡ 0 → {out n w : ℕ} {r : Progress} {after : Store} {mid reply : List ℕ} → out ≡ n
+      → RanAll (reached g v (fresh st) (items s (h .ops) at)) st at out r after buf mid → out + 26148 ≤ length buf
+      → length (concatMap resultBytes (compound g v st s h at)) ≤ 26148
+      → Written (u32 (r .status) ++ opaque (h .tag) ++ u32 (r .count)) n 0 mid reply w
+      → Gives (served buf st h at (compound g v st s h at)) (record { number = 0; read = r .read; written = r .out; reply = reply; store = after })
+  unfolding served replyBytes
+  served-some q {out} {n} {w} {r} e run room most head =
+      let zs = reached g v (fresh st) (items s (h .ops) at) in
+      let from : 0 + n ≡ out = zero-add n ∙ sym e in
+      let both = written-before from (omega (arith, room, rw (events-some q) at most)) (run .written) head in
+      let is : replyBytes (lastStatus (headerStatus h) zs) (h .tag) zs ≡ u32 (r .status) ++ opaque (h .tag) ++ u32 (r .count) ++ concatMap resultBytes zs =
+      rw (q, run .status-is, run .count-is, replyBytes) in
+      let all = whole-reply both in
+      rw (events-some q) (record {
+        number = refl;
+        read = run .read-is;
+        written = all .1 ∙ ap length (sym is);
+        reply = all .0 ∙ ap (λ (l : List ℕ). l ++ drop (length l) buf) (sym is);
+        sizes = run .sizes-are;
+        words = run .words-are;
+        mem = run .mem-is;
+      })
+
+-- ---- the refusals
+
+refused-at : (c : Call) (st : Store) (k : ℕ) → refusal (c .geometry) (c .verifier) (c .request) (c .buffer) st ≡ k → k ≢ 0 → answer c st ≡ refuse k (c .buffer) st
+unfolding answer serve
+refused-at c st zero e n = absurd (n refl)
+refused-at c st (suc k) e n = rw (e, serve)
+
+refuse-gives : {want : Outcome} {k number read written : ℕ} {buf : List ℕ} {st : Store} → want ≡ refuse k buf st → (number ≡ k) × ((read ≡ 0) × (written ≡ 0))
+    → Gives want (record { number = number; read = read; written = written; reply = buf; store = st })
+refuse-gives e r = rw e (record { number = r .0; read = r .1 .0; written = r .1 .1; reply = refl; sizes = refl; words = refl; mem = refl })
+
+module _ (g : Geometry) (v s buf : List ℕ) (st : Store) where
+  abbrev call : Call
+  call = record { geometry = g; verifier = v; request = s; buffer = buf }
+
+  -- a call refused with number k, as the code answers it
+  abbrev Refuses : ℕ → Type 0
+  Refuses k = (number read written : ℕ) → (number ≡ k) × ((read ≡ 0) × (written ≡ 0))
+      → Contract call st (record { number = number; read = read; written = written; reply = buf; store = st })
+
+  by : (k : ℕ) → refusal g v s buf st ≡ k → k ≢ 0 → Refuses k
+  by k e n number read written r = refuse-gives (refused-at call st k e n) r
+
+  pub refused-1 : goodGeometry g ≡ false → Refuses 1
+  unfolding refusal
+  refused-1 e = by 1 (rw e) (λ q. omega (arith, q))
+
+  module _ (geometry : goodGeometry g ≡ true) where
+    pub refused-2 : goodLengths g st ≡ false → Refuses 2
+    unfolding refusal
+    refused-2 e = by 2 (rw (geometry, e)) (λ q. omega (arith, q))
+
+    module _ (lengths : goodLengths g st ≡ true) where
+      pub refused-2-verifier : length v ≢ 8 → Refuses 2
+      unfolding refusal
+      refused-2-verifier n = by 2 (rw (geometry, lengths, ne-eqb (length v) 8 n)) (λ q. omega (arith, q))
+
+      module _ (verifier : length v ≡ 8) where
+        pub refused-3 : sound g st ≡ false → Refuses 3
+        unfolding refusal
+        refused-3 e = by 3 (rw (geometry, lengths, eq-eqb (length v) 8 verifier, e)) (λ q. omega (arith, q))
+
+        module _ (is-sound : sound g st ≡ true) where
+          pub refused-4 : 65536 < length s → Refuses 4
+          unfolding refusal
+          refused-4 l = by 4 (rw (geometry, lengths, eq-eqb (length v) 8 verifier, is-sound, lt-ltb 65536 (length s) l)) (λ q. omega (arith, q))
+
+          module _ (short : length s ≤ 65536) where
+            pub refused-5 : length buf < 32768 → Refuses 5
+            unfolding refusal
+            refused-5 l =
+                by 5 (rw (geometry, lengths, eq-eqb (length v) 8 verifier, is-sound, le-ltb 65536 (length s) short, lt-ltb (length buf) 32768 l)) (λ q. omega (arith, q))
+
+            module _ (room : 32768 ≤ length buf) where
+              accepted : refusal g v s buf st ≡ 0
+              unfolding refusal
+              accepted = rw (geometry, lengths, eq-eqb (length v) 8 verifier, is-sound, le-ltb 65536 (length s) short, le-ltb (length buf) 32768 room)
+
+              pub refused-6 : {p : ℕ} → header s 0 ≡ fault p → Refuses 6
+              unfolding answer serve
+              refused-6 e number read written r = refuse-gives (rw (accepted, e, serve)) r
+
+              pub serves : {h : Header} {at : ℕ} {o : Outcome} → header s 0 ≡ got h at → Gives (served buf st h at (compound g v st s h at)) o → Contract call st o
+              unfolding answer serve
+              serves e d = rw (accepted, e, serve) d
+
+-- ---- the survey
+
+module _ {g : Geometry} {st : Store} {counts₀ counts : List ℕ} {number usedIs owedIs : ℕ} (t : TableReady g st counts₀) (r : Surveyed g st number usedIs owedIs counts) where
+  pub survey-unsound : number ≢ 0 → sound g st ≡ false
+  unfolding storeRefusal
+  survey-unsound n = go (sound g st) refl
+    where
+      go : (b : Bool) → sound g st ≡ b → sound g st ≡ false
+      go true e = absurd (n (r .promise .number-is ∙ rw (t .shaped .geometry, t .shaped .lengths, e)))
+      go false e = e
+
+  pub survey-sound : number ≡ 0 → sound g st ≡ true
+  unfolding storeRefusal
+  survey-sound z = go (sound g st) refl
+    where
+      go : (b : Bool) → sound g st ≡ b → sound g st ≡ true
+      go true e = e
+      go false e = absurd (let q : number ≡ 3 = r .promise .number-is ∙ rw (t .shaped .geometry, t .shaped .lengths, e) in omega (arith, q, z))
+
+  pub table-long : length counts ≡ length counts₀ → length counts ≡ g .N
+  table-long e = e ∙ ap length (t .zero) ∙ length-replicate (g .N) 0
+
+  pub serves-known : {v s reply : List ℕ} → number ≡ 0 → length counts ≡ g .N → length v ≡ 8 → length s ≤ 65536 → 32768 ≤ length reply → Serves g v s st counts reply
+  serves-known z n hv hs hr =
+      let snd = survey-sound z in
+      record {
+        shaped = t .shaped;
+        sound = snd;
+        counted = sound-counted g st counts (t .shaped) snd (r .table z) n;
+        blocks = n;
+        verifier = hv;
+        request = hs;
+        room = hr;
+      }
+
+-- ---- the header
+
+pub tag-short : (s : List ℕ) {h : Header} {at : ℕ} → header s 0 ≡ got h at → length (h .tag) ≤ 1024
+tag-short s e = rw e at (header-reads s 0)
+
+pub few-ops : (minor ops : ℕ) → _≡_ {A = ℕ} 0 (first ((not (eqb minor 2), MINOR-VERS-MISMATCH) ∷ (ltb 12 ops, TOO-MANY-OPS) ∷ [])) → ops ≤ 12
+few-ops minor ops e =
+    ltb-false 12 ops (all-clear ((not (eqb minor 2), MINOR-VERS-MISMATCH) ∷ (ltb 12 ops, TOO-MANY-OPS) ∷ []) refl (sym e) .1 .0)
+
+-- where the run of a compound may start: behind the head
+pub runs-all : {g : Geometry} {v s : List ℕ} {st : Store} {counts reply : List ℕ} → Serves g v s st counts reply → (tag ops : ℕ) → tag ≤ 1024 → ops ≤ 12
+    → RunsAll g v s st counts ops reply (12 + (tag + padBytes tag))
+runs-all k tag ops ht ho = record {
+  shaped = k .shaped;
+  sound = k .sound;
+  counted = k .counted;
+  blocks = k .blocks;
+  verifier = k .verifier;
+  request = k .request;
+  few = ho;
+  room = omega (arith, k .room, ht);
+}
+
+-- all results of a served compound
+pub results-fit : {g : Geometry} {v s : List ℕ} {st : Store} {counts reply : List ℕ} → Serves g v s st counts reply → (h : Header) (at : ℕ)
+    → length (concatMap resultBytes (compound g v st s h at)) ≤ 26148
+results-fit {g} {v} {s} {st} k h at =
+    let d = good g (k .shaped .geometry) in
+    results-most g (d .block) v (k .verifier) st (sound-facts g (block-pos d) st (k .shaped .lengths) (k .sound)) s h at
+
+-- the results start behind the head
+pub head-place : (tag n p : ℕ) → n ≡ tag → p ≡ padBytes n → 12 + (n + p) ≡ 8 + opaqueSize tag
+head-place tag n p e h = rw (h, e) (omega arith)

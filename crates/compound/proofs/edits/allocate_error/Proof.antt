@@ -1,0 +1,72 @@
+use mathlib.Core.Bool.{not}
+use mathlib.Core.Path.{refl, sym, ap, _∙_}
+use borrow.Author.Tests.{eq-eqb, ne-eqb}
+use Rattle.compound.specs.Run.{errors}
+use Rattle.compound.proofs.EditOps.{hit, miss}
+use borrow.Author.Needs.{needs}
+use Rattle.compound.proofs.edits.allocate_error.Statement.{statement}
+use Rattle.compound.proofs.edits.allocate_error.Tie as tie
+
+zero-stateid-requires : tie.Need-zero-stateid-requires
+zero-stateid-requires c κs = search needs
+
+returns : tie.Need-returns
+unfolding errors
+returns c = λ x h. miss _ h (hit _ (ap not (sym (c .before .zero-stateid .ensures)) ∙ c .if1 .taken))
+
+too-far-requires : tie.Need-too-far-requires
+too-far-requires c κs = search needs
+
+returns-2 : tie.Need-returns-2
+unfolding errors
+returns-2 c =
+    let k = c .before in
+    let z = k .before in
+    λ x h. miss _ h (miss _ (ap not (sym (z .before .zero-stateid .ensures)) ∙ z .if1 .left) (hit _ (sym (k .too-far .ensures) ∙ c .if2 .taken)))
+
+returns-3 : tie.Need-returns-3
+unfolding errors
+returns-3 c =
+    let t = c .before .before in
+    let k = t .before in
+    let z = k .before in
+    λ x h. miss _ h (miss _ (ap not (sym (z .before .zero-stateid .ensures)) ∙ z .if1 .left) (miss _ (sym (k .too-far .ensures) ∙ t .if2 .left)
+    (hit _ (eq-eqb _ 0 (c .if3 .taken)))))
+
+too-big-requires : tie.Need-too-big-requires
+too-big-requires c κs = search needs
+
+returns-4 : tie.Need-returns-4
+unfolding errors
+returns-4 c =
+    let b = c .before in
+    let e = b .before in
+    let t = e .before .before in
+    let k = t .before in
+    let z = k .before in
+    λ x h. miss _ h (miss _ (ap not (sym (z .before .zero-stateid .ensures)) ∙ z .if1 .left) (miss _ (sym (k .too-far .ensures) ∙ t .if2 .left)
+    (miss _ (ne-eqb _ 0 (e .if3 .left)) (hit _ (sym (b .too-big .ensures) ∙ c .if4 .taken)))))
+
+returns-5 : tie.Need-returns-5
+unfolding errors
+returns-5 c =
+    let b = c .before in
+    let e = b .before in
+    let t = e .before .before in
+    let k = t .before in
+    let z = k .before in
+    λ x h. miss _ h (miss _ (ap not (sym (z .before .zero-stateid .ensures)) ∙ z .if1 .left) (miss _ (sym (k .too-far .ensures) ∙ t .if2 .left)
+    (miss _ (ne-eqb _ 0 (e .if3 .left)) (miss _ (sym (b .too-big .ensures) ∙ c .if4 .left) refl))))
+
+pub allocate-error-spec : {M : Type 1} → statement M
+allocate-error-spec =
+    tie.close
+    (tie.spec
+    zero-stateid-requires
+    returns
+    too-far-requires
+    returns-2
+    returns-3
+    too-big-requires
+    returns-4
+    returns-5)

@@ -1,0 +1,262 @@
+// The operations of a compound, one after the other, up to the first that fails.
+ghost use mathlib.Core.Path.{_≡_};
+ghost use mathlib.Core.List.{List};
+ghost use Prim.Native.Nat.{ℕ, _+_, _*_, _<_, _≤_};
+ghost use lib.ListN.{length};
+ghost use Rattle.store.specs.Geometry.{geometryOf};
+ghost use Rattle.store.specs.Store.{Store};
+ghost use Rattle.store.specs.Plan.{Counted};
+ghost use Rattle.compound.specs.Operation.{bad, items};
+ghost use Rattle.compound.specs.Decoded.{meaning};
+ghost use Rattle.compound.specs.Run.{failed, perform, reached};
+ghost use Rattle.compound.specs.Serve.{fresh};
+ghost use Rattle.compound.specs.Runner.{stateOf, Runs, Answered, eventAt, Turned, RunsAll, RanAll};
+use crate::answer::Answer;
+use crate::answer::Handle;
+use crate::answer::put_result;
+use crate::clones;
+use crate::decode::item;
+use crate::edits;
+use crate::handles;
+use crate::operation::Item;
+use crate::operation::Operation;
+use crate::reads;
+use store::Geometry;
+use xdr::Cursor;
+
+// Where a run stands: the last status, the operations reached, the next byte to read and to write, and the handles.
+pub struct Progress {
+    pub status: u32,
+    pub count: u32,
+    pub read: usize,
+    pub out: usize,
+    pub current: Handle,
+    pub saved: Handle,
+}
+
+// One operation, run and answered.
+fn operation(
+    g: Geometry,
+    sizes: &mut [u64],
+    words: &mut [u32],
+    mem: &mut [u8],
+    counts: &mut [u32],
+    v: &[u8],
+    s: &[u8],
+    o: Operation,
+    current: Handle,
+    saved: Handle,
+    reply: &mut [u8],
+    at: usize,
+) -> Answer
+    requires { ⌜ Runs (geometryOf g) (now v) (now s) (stateOf current saved (record { sizes = now sizes; words = now words; mem = now mem })) (now counts) (now reply) at ⌝ }
+    ensures { λ r. ⌜ ((next : ℕ) → Answered
+        (perform (geometryOf g) (now (v .entry)) (stateOf current saved (record { sizes = now (sizes .entry); words = now (words .entry); mem = now (mem .entry) }))
+        (meaning (now (s .entry)) (o)) next)
+        r (record { sizes = now (sizes .exit); words = now (words .exit); mem = now (mem .exit) }) (now (counts .exit)) at (now (reply .entry)) (now (reply .exit))) ⌝ }
+{
+    match o {
+        Operation::GetFh => handles::get_fh(g, current, saved, reply, at),
+        Operation::PutFh(h) => handles::put_fh(g, s, h, current, saved, reply, at),
+        Operation::Read(a) => reads::read(g, sizes, words, mem, s, a, current, saved, reply, at),
+        Operation::RestoreFh => handles::restore_fh(g, current, saved, reply, at),
+        Operation::SaveFh => handles::save_fh(g, current, saved, reply, at),
+        Operation::Write(a) => edits::write(
+            g,
+            sizes,
+            words,
+            mem,
+            counts,
+            v,
+            s,
+            a,
+            current,
+            saved,
+            reply,
+            at,
+        ),
+        Operation::Allocate(a) => edits::allocate(
+            g,
+            sizes,
+            words,
+            mem,
+            counts,
+            v,
+            s,
+            a,
+            current,
+            saved,
+            reply,
+            at,
+        ),
+        Operation::Copy(a) => clones::copy(
+            g,
+            sizes,
+            words,
+            mem,
+            counts,
+            v,
+            s,
+            a,
+            current,
+            saved,
+            reply,
+            at,
+        ),
+        Operation::Deallocate(a) => edits::deallocate(
+            g,
+            sizes,
+            words,
+            mem,
+            counts,
+            v,
+            s,
+            a,
+            current,
+            saved,
+            reply,
+            at,
+        ),
+        Operation::ReadPlus(a) => {
+            reads::read_plus(g, sizes, words, mem, s, a, current, saved, reply, at)
+        }
+        Operation::Seek(a) => reads::seek(g, sizes, words, mem, s, a, current, saved, reply, at),
+        Operation::Clone(a) => clones::clone(
+            g,
+            sizes,
+            words,
+            mem,
+            counts,
+            v,
+            s,
+            a,
+            current,
+            saved,
+            reply,
+            at,
+        ),
+    }
+}
+
+// The operation o, behind which the request goes on at `next`.
+fn step(
+    g: Geometry,
+    sizes: &mut [u64],
+    words: &mut [u32],
+    mem: &mut [u8],
+    counts: &mut [u32],
+    v: &[u8],
+    s: &[u8],
+    o: Operation,
+    next: Cursor,
+    r: Progress,
+    reply: &mut [u8],
+) -> Progress
+    requires { ⌜ Runs (geometryOf g) (now v) (now s) (stateOf (r .current) (r .saved) (record { sizes = now sizes; words = now words; mem = now mem })) (now counts) (now reply) (r .out) × (r .count < 12) ⌝ }
+    ensures { λ r′. ⌜ Turned (perform (geometryOf g) (now (v .entry)) (stateOf (r .current) (r .saved) (record { sizes = now (sizes .entry); words = now (words .entry); mem = now (mem .entry) })) (meaning (now (s .entry)) o) (next .at))
+        r r′ (record { sizes = now (sizes .exit); words = now (words .exit); mem = now (mem .exit) }) (now (counts .exit)) (now (reply .entry)) (now (reply .exit)) ⌝ }
+{
+    let current = r.current;
+    let saved = r.saved;
+    let a = operation(
+        g,
+        sizes,
+        words,
+        mem,
+        counts,
+        v,
+        s,
+        o,
+        current,
+        saved,
+        reply,
+        r.out,
+    );
+    let current = a.current;
+    let saved = a.saved;
+    Progress {
+        status: a.status,
+        count: r.count + 1,
+        read: next.at,
+        out: a.next,
+        current,
+        saved,
+    }
+}
+
+// The result of what does not decode: number and status.
+fn stop(number: u32, status: u32, r: Progress, reply: &mut [u8]) -> Progress
+    requires { ⌜ (r .out + 8 ≤ length (now reply)) × (r .count < 12) ⌝ }
+    ensures { λ r′. ⌜ ((st : Store) (counts : List ℕ) → Counted (st .words) counts
+        → Turned (failed (bad number status) (stateOf (r .current) (r .saved) st) status)
+        r r′ st counts (now (reply .entry)) (now (reply .exit))) ⌝ }
+{
+    let current = r.current;
+    let saved = r.saved;
+    let out = put_result(reply, r.out, number, status);
+    Progress {
+        status,
+        count: r.count + 1,
+        read: r.read,
+        out,
+        current,
+        saved,
+    }
+}
+
+// What stands at the next place of the request.
+fn turn(
+    g: Geometry,
+    sizes: &mut [u64],
+    words: &mut [u32],
+    mem: &mut [u8],
+    counts: &mut [u32],
+    v: &[u8],
+    s: &[u8],
+    r: Progress,
+    reply: &mut [u8],
+) -> Progress
+    requires { ⌜ Runs (geometryOf g) (now v) (now s) (stateOf (r .current) (r .saved) (record { sizes = now sizes; words = now words; mem = now mem })) (now counts) (now reply) (r .out) × (r .count < 12) ⌝ }
+    ensures { λ r′. ⌜ Turned (eventAt (geometryOf g) (now (v .entry)) (stateOf (r .current) (r .saved) (record { sizes = now (sizes .entry); words = now (words .entry); mem = now (mem .entry) })) (now (s .entry)) (r .read))
+        r r′ (record { sizes = now (sizes .exit); words = now (words .exit); mem = now (mem .exit) }) (now (counts .exit)) (now (reply .entry)) (now (reply .exit)) ⌝ }
+{
+    match item(s, Cursor { at: r.read }) {
+        Item::Op(o, next) => step(g, sizes, words, mem, counts, v, s, o, next, r, reply),
+        Item::Bad(number, status) => stop(number, status, r, reply),
+    }
+}
+
+// At most `ops` operations from place `read` of the request on; their results go to place `out` of the reply.
+pub fn run(
+    g: Geometry,
+    sizes: &mut [u64],
+    words: &mut [u32],
+    mem: &mut [u8],
+    counts: &mut [u32],
+    v: &[u8],
+    s: &[u8],
+    ops: u32,
+    read: usize,
+    out: usize,
+    reply: &mut [u8],
+) -> Progress
+    requires { ⌜ RunsAll (geometryOf g) (now v) (now s) (record { sizes = now sizes; words = now words; mem = now mem }) (now counts) ops (now reply) out ⌝ }
+    ensures { λ r. ⌜ RanAll (reached (geometryOf g) (now (v .entry)) (fresh (record { sizes = now (sizes .entry); words = now (words .entry); mem = now (mem .entry) })) (items (now (s .entry)) ops read))
+        (record { sizes = now (sizes .entry); words = now (words .entry); mem = now (mem .entry) }) read out r (record { sizes = now (sizes .exit); words = now (words .exit); mem = now (mem .exit) }) (now (reply .entry)) (now (reply .exit)) ⌝ }
+{
+    let mut r = Progress {
+        status: 0,
+        count: 0,
+        read,
+        out,
+        current: Handle::Nothing,
+        saved: Handle::Nothing,
+    };
+    while r.count < ops {
+        r = turn(g, sizes, words, mem, counts, v, s, r, reply);
+        if r.status != 0 {
+            return r;
+        }
+    }
+    r
+}

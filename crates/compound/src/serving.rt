@@ -1,0 +1,243 @@
+// The call that serves a compound: the refusals in their order, then the operations, then the reply's head.
+ghost use mathlib.Core.Path.{_≡_};
+ghost use mathlib.Core.Bool.{not};
+ghost use lib.Dec.{ltb, eqb};
+ghost use mathlib.Core.List.{[], _∷_, _++_};
+ghost use Prim.Native.Nat.{_+_, _≤_};
+ghost use lib.ListN.{length};
+ghost use Rattle.xdr.specs.Bytes.{partOf, Written};
+ghost use Rattle.xdr.specs.Encode.{u32, opaque, opaqueSize};
+ghost use Rattle.store.specs.Geometry.{geometryOf};
+ghost use Rattle.store.specs.Calls.{first};
+ghost use Rattle.store.specs.Tables.{Shaped};
+ghost use Rattle.store.specs.Survey.{TableFits, TableReady};
+ghost use Rattle.compound.specs.Status.{MINOR-VERS-MISMATCH, TOO-MANY-OPS};
+ghost use Rattle.compound.specs.Serve.{compound, Gives, served};
+ghost use Rattle.compound.specs.Claim.{Contract};
+ghost use Rattle.compound.specs.Runner.{Serves, headerOf};
+use crate::answer::Answer;
+use crate::decode::HeaderRead;
+use crate::decode::header;
+use crate::operation::Operation;
+use crate::run::run;
+use store::Geometry;
+use xdr::Cursor;
+use xdr::Span;
+
+// A refusal with zero counts, or 0 with the bytes read and written.
+pub struct Served {
+    pub number: u32,
+    pub read: usize,
+    pub written: usize,
+}
+
+impl Served {
+    pub const MINOR: u32 = 2;
+
+    pub const VERIFIER: usize = 8;
+
+    pub const MAX_REQUEST: usize = 65536;
+
+    pub const MIN_REPLY: usize = 32768;
+
+    pub fn refused(number: u32) -> Self
+        ensures { λ r. ⌜ (r .number ≡ number) × ((r .read ≡ 0) × (r .written ≡ 0)) ⌝ }
+    {
+        Served {
+            number,
+            read: 0,
+            written: 0,
+        }
+    }
+}
+
+// The status of a compound that is refused as a whole, else 0.
+fn header_status(minor: u32, ops: u32) -> u32
+    ensures { λ r. ⌜ r ≡ first ((not (eqb minor 2), MINOR-VERS-MISMATCH) ∷ (ltb 12 ops, TOO-MANY-OPS) ∷ []) ⌝ }
+{
+    if minor != Served::MINOR {
+        return Answer::MINOR_VERS_MISMATCH;
+    }
+    if Operation::MAX_OPS < ops {
+        return Answer::TOO_MANY_OPS;
+    }
+    0
+}
+
+// The head of the reply: status, tag, number of results.
+fn put_head(reply: &mut [u8], status: u32, tag: &[u8], count: u32) -> usize
+    requires { ⌜ (length (now tag) ≤ 1024) × (1036 ≤ length (now reply)) ⌝ }
+    ensures { λ r. ⌜ Written (u32 status ++ opaque (now (tag .entry)) ++ u32 count) (8 + opaqueSize (length (now (tag .entry)))) 0
+        (now (reply .entry)) (now (reply .exit)) r ⌝ }
+{
+    let at = xdr::put_u32(reply, 0, status);
+    let next = xdr::put_opaque(reply, at, tag);
+    xdr::put_u32(reply, next, count)
+}
+
+// A compound whose header was read, on a store that was found sound. The results are written first: their place is known from the
+// tag, their number and the last status are not.
+fn serve_operations(
+    g: Geometry,
+    sizes: &mut [u64],
+    words: &mut [u32],
+    mem: &mut [u8],
+    counts: &mut [u32],
+    v: &[u8],
+    s: &[u8],
+    d: Span,
+    minor: u32,
+    ops: u32,
+    c: Cursor,
+    reply: &mut [u8],
+) -> Served
+    requires { ⌜ Serves (geometryOf g) (now v) (now s) (record { sizes = now sizes; words = now words; mem = now mem }) (now counts) (now reply) × (length (partOf (now s) d) ≤ 1024) ⌝ }
+    ensures { λ r. ⌜ Gives (served (now (reply .entry)) (record { sizes = now (sizes .entry); words = now (words .entry); mem = now (mem .entry) }) (headerOf (now (s .entry)) d minor ops) (c .at)
+        (compound (geometryOf g) (now (v .entry)) (record { sizes = now (sizes .entry); words = now (words .entry); mem = now (mem .entry) }) (now (s .entry)) (headerOf (now (s .entry)) d minor ops) (c .at)))
+        (record {
+          number = r .number;
+          read = r .read;
+          written = r .written;
+          reply = now (reply .exit);
+          store = record { sizes = now (sizes .exit); words = now (words .exit); mem = now (mem .exit) };
+        }) ⌝ }
+{
+    let tag = xdr::part(s, d);
+    let e = header_status(minor, ops);
+    if e != 0 {
+        let written = put_head(reply, e, tag, 0);
+        return Served {
+            number: 0,
+            read: c.at,
+            written,
+        };
+    }
+    let out = 12 + (tag.len() + xdr::padding(tag.len()));
+    let r = run(g, sizes, words, mem, counts, v, s, ops, c.at, out, reply);
+    put_head(reply, r.status, tag, r.count);
+    Served {
+        number: 0,
+        read: r.read,
+        written: r.out,
+    }
+}
+
+// Refusals 3 to 6. `counts` has a zero for each block.
+fn serve_counted(
+    g: Geometry,
+    sizes: &mut [u64],
+    words: &mut [u32],
+    mem: &mut [u8],
+    counts: &mut [u32],
+    v: &[u8],
+    s: &[u8],
+    reply: &mut [u8],
+) -> Served
+    requires { ⌜ TableReady (geometryOf g) (record { sizes = now sizes; words = now words; mem = now mem }) (now counts) × (length (now v) ≡ 8) ⌝ }
+    ensures { λ r. ⌜ Contract (record { geometry = geometryOf g; verifier = now (v .entry); request = now (s .entry); buffer = now (reply .entry) })
+        (record { sizes = now (sizes .entry); words = now (words .entry); mem = now (mem .entry) })
+        (record {
+          number = r .number;
+          read = r .read;
+          written = r .written;
+          reply = now (reply .exit);
+          store = record { sizes = now (sizes .exit); words = now (words .exit); mem = now (mem .exit) };
+        }) ⌝ }
+{
+    if store::survey_tables(g, sizes, words, mem, counts).number != 0 {
+        return Served::refused(3);
+    }
+    if Served::MAX_REQUEST < s.len() {
+        return Served::refused(4);
+    }
+    if reply.len() < Served::MIN_REPLY {
+        return Served::refused(5);
+    }
+    let HeaderRead::Found(d, minor, ops, c) = header(s) else {
+        return Served::refused(6);
+    };
+    serve_operations(g, sizes, words, mem, counts, v, s, d, minor, ops, c, reply)
+}
+
+// The same in a table of any length that has a number for each block.
+fn serve_in(
+    g: Geometry,
+    sizes: &mut [u64],
+    words: &mut [u32],
+    mem: &mut [u8],
+    counts: &mut [u32],
+    v: &[u8],
+    s: &[u8],
+    reply: &mut [u8],
+) -> Served
+    requires { ⌜ TableFits (geometryOf g) (record { sizes = now sizes; words = now words; mem = now mem }) (now counts) × (length (now v) ≡ 8) ⌝ }
+    ensures { λ r. ⌜ Contract (record { geometry = geometryOf g; verifier = now (v .entry); request = now (s .entry); buffer = now (reply .entry) })
+        (record { sizes = now (sizes .entry); words = now (words .entry); mem = now (mem .entry) })
+        (record {
+          number = r .number;
+          read = r .read;
+          written = r .written;
+          reply = now (reply .exit);
+          store = record { sizes = now (sizes .exit); words = now (words .exit); mem = now (mem .exit) };
+        }) ⌝ }
+{
+    let n = g.blocks;
+    serve_counted(g, sizes, words, mem, &mut counts[..n], v, s, reply)
+}
+
+// The same; it owns the table and only lends it.
+fn serve_shaped(
+    g: Geometry,
+    sizes: &mut [u64],
+    words: &mut [u32],
+    mem: &mut [u8],
+    v: &[u8],
+    s: &[u8],
+    reply: &mut [u8],
+) -> Served
+    requires { ⌜ Shaped (geometryOf g) (record { sizes = now sizes; words = now words; mem = now mem }) × (length (now v) ≡ 8) ⌝ }
+    ensures { λ r. ⌜ Contract (record { geometry = geometryOf g; verifier = now (v .entry); request = now (s .entry); buffer = now (reply .entry) })
+        (record { sizes = now (sizes .entry); words = now (words .entry); mem = now (mem .entry) })
+        (record {
+          number = r .number;
+          read = r .read;
+          written = r .written;
+          reply = now (reply .exit);
+          store = record { sizes = now (sizes .exit); words = now (words .exit); mem = now (mem .exit) };
+        }) ⌝ }
+{
+    let mut counts = [0u32; 65536];
+    serve_in(g, sizes, words, mem, &mut counts, v, s, reply)
+}
+
+// Serves the compound of request s on the lent store. v is the verifier.
+pub fn serve(
+    g: Geometry,
+    sizes: &mut [u64],
+    words: &mut [u32],
+    mem: &mut [u8],
+    v: &[u8],
+    s: &[u8],
+    reply: &mut [u8],
+) -> Served
+    ensures { λ r. ⌜ Contract (record { geometry = geometryOf g; verifier = now (v .entry); request = now (s .entry); buffer = now (reply .entry) })
+        (record { sizes = now (sizes .entry); words = now (words .entry); mem = now (mem .entry) })
+        (record {
+          number = r .number;
+          read = r .read;
+          written = r .written;
+          reply = now (reply .exit);
+          store = record { sizes = now (sizes .exit); words = now (words .exit); mem = now (mem .exit) };
+        }) ⌝ }
+{
+    if !g.good() {
+        return Served::refused(1);
+    }
+    if !store::good_lengths(g, sizes, words, mem) {
+        return Served::refused(2);
+    }
+    if v.len() != Served::VERIFIER {
+        return Served::refused(2);
+    }
+    serve_shaped(g, sizes, words, mem, v, s, reply)
+}

@@ -4,9 +4,11 @@ ghost use mathlib.Core.List.{List};
 ghost use mathlib.Core.Option.{some};
 ghost use Prim.Native.Nat.{ℕ, _+_, _^_, _<_, _≤_};
 ghost use lib.ListN.{length};
+ghost use Rattle.store.specs.Geometry as G;
 ghost use Rattle.store.specs.Geometry.{geometryOf};
 ghost use Rattle.store.specs.Store.{Store};
 ghost use Rattle.store.specs.Plan.{Counted};
+ghost use Rattle.compound.specs.Operation.{GETFH, SAVEFH, RESTOREFH};
 ghost use Rattle.compound.specs.Decoded.{meaning};
 ghost use Rattle.compound.specs.Run.{perform};
 ghost use Rattle.compound.specs.Runner.{fileIn, stateOf, Known, Answered};
@@ -20,10 +22,10 @@ use xdr::Cursor;
 use xdr::Span;
 use xdr::Word;
 
-pub fn get_fh(g: Geometry, current: Handle, saved: Handle, reply: &mut [u8], at: usize) -> Answer
+pub fn get_fh(current: Handle, saved: Handle, reply: &mut [u8], at: usize) -> Answer
     requires { ⌜ ((f : ℕ) → fileIn current ≡ some f → f < 2 ^ 32) × (at + 16 ≤ length (now reply)) ⌝ }
-    ensures { λ r. ⌜ ((v : List ℕ) (st : Store) (counts : List ℕ) (next : ℕ) → Known (geometryOf g) (stateOf current saved st) → Counted (st .words) counts
-        → Answered (perform (geometryOf g) v (stateOf current saved st) (meaning (now (reply .entry)) Operation.GetFh) next)
+    ensures { λ r. ⌜ ((g : G.Geometry) (v : List ℕ) (st : Store) (counts : List ℕ) (next : ℕ) → Known g (stateOf current saved st) → Counted (st .words) counts
+        → Answered (perform g v (stateOf current saved st) GETFH next)
         r st counts at (now (reply .entry)) (now (reply .exit))) ⌝ }
 {
     let Handle::File(f) = current else {
@@ -47,10 +49,10 @@ pub fn get_fh(g: Geometry, current: Handle, saved: Handle, reply: &mut [u8], at:
     }
 }
 
-pub fn save_fh(g: Geometry, current: Handle, saved: Handle, reply: &mut [u8], at: usize) -> Answer
+pub fn save_fh(current: Handle, saved: Handle, reply: &mut [u8], at: usize) -> Answer
     requires { ⌜ at + 8 ≤ length (now reply) ⌝ }
-    ensures { λ r. ⌜ ((v : List ℕ) (st : Store) (counts : List ℕ) (next : ℕ) → Known (geometryOf g) (stateOf current saved st) → Counted (st .words) counts
-        → Answered (perform (geometryOf g) v (stateOf current saved st) (meaning (now (reply .entry)) Operation.SaveFh) next)
+    ensures { λ r. ⌜ ((g : G.Geometry) (v : List ℕ) (st : Store) (counts : List ℕ) (next : ℕ) → Known g (stateOf current saved st) → Counted (st .words) counts
+        → Answered (perform g v (stateOf current saved st) SAVEFH next)
         r st counts at (now (reply .entry)) (now (reply .exit))) ⌝ }
 {
     let Handle::File(f) = current else {
@@ -66,16 +68,10 @@ pub fn save_fh(g: Geometry, current: Handle, saved: Handle, reply: &mut [u8], at
     without_body(reply, at, Operation::SAVEFH, 0, current, Handle::File(f))
 }
 
-pub fn restore_fh(
-    g: Geometry,
-    current: Handle,
-    saved: Handle,
-    reply: &mut [u8],
-    at: usize,
-) -> Answer
+pub fn restore_fh(current: Handle, saved: Handle, reply: &mut [u8], at: usize) -> Answer
     requires { ⌜ at + 8 ≤ length (now reply) ⌝ }
-    ensures { λ r. ⌜ ((v : List ℕ) (st : Store) (counts : List ℕ) (next : ℕ) → Known (geometryOf g) (stateOf current saved st) → Counted (st .words) counts
-        → Answered (perform (geometryOf g) v (stateOf current saved st) (meaning (now (reply .entry)) Operation.RestoreFh) next)
+    ensures { λ r. ⌜ ((g : G.Geometry) (v : List ℕ) (st : Store) (counts : List ℕ) (next : ℕ) → Known g (stateOf current saved st) → Counted (st .words) counts
+        → Answered (perform g v (stateOf current saved st) RESTOREFH next)
         r st counts at (now (reply .entry)) (now (reply .exit))) ⌝ }
 {
     let Handle::File(f) = saved else {

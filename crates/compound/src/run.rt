@@ -52,15 +52,15 @@ fn operation(
     requires { ⌜ Runs (geometryOf g) (now v) (now s) (stateOf current saved (record { sizes = now sizes; words = now words; mem = now mem })) (now counts) (now reply) at ⌝ }
     ensures { λ r. ⌜ ((next : ℕ) → Answered
         (perform (geometryOf g) (now (v .entry)) (stateOf current saved (record { sizes = now (sizes .entry); words = now (words .entry); mem = now (mem .entry) }))
-        (meaning (now (s .entry)) (o)) next)
+        (meaning (now (s .entry)) o) next)
         r (record { sizes = now (sizes .exit); words = now (words .exit); mem = now (mem .exit) }) (now (counts .exit)) at (now (reply .entry)) (now (reply .exit))) ⌝ }
 {
     match o {
-        Operation::GetFh => handles::get_fh(g, current, saved, reply, at),
+        Operation::GetFh => handles::get_fh(current, saved, reply, at),
         Operation::PutFh(h) => handles::put_fh(g, s, h, current, saved, reply, at),
         Operation::Read(a) => reads::read(g, sizes, words, mem, s, a, current, saved, reply, at),
-        Operation::RestoreFh => handles::restore_fh(g, current, saved, reply, at),
-        Operation::SaveFh => handles::save_fh(g, current, saved, reply, at),
+        Operation::RestoreFh => handles::restore_fh(current, saved, reply, at),
+        Operation::SaveFh => handles::save_fh(current, saved, reply, at),
         Operation::Write(a) => edits::write(
             g,
             sizes,

@@ -4,8 +4,8 @@ ghost use lib.ListN.{length};
 ghost use Rattle.store.specs.Geometry.{geometryOf};
 ghost use Rattle.store.specs.Allocate.{editAllocate};
 ghost use Rattle.store.specs.Edits.{EditPromise, RegionKnown};
+use crate::edit_plans::plan_allocate;
 use crate::geometry::Geometry;
-use crate::plans::plan_allocate;
 use crate::write::grow;
 
 // `saved` has a word for each slot of a file.

@@ -4,8 +4,8 @@ ghost use lib.ListN.{length};
 ghost use Rattle.store.specs.Geometry.{geometryOf};
 ghost use Rattle.store.specs.Clone.{editClone};
 ghost use Rattle.store.specs.Edits.{EditPromise, CloneKnown};
+use crate::edit_plans::plan_clone;
 use crate::geometry::Geometry;
-use crate::plans::plan_clone;
 use crate::write::grow;
 
 // A CLONE of some bytes. `saved` has a word for each slot of a file.

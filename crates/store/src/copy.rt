@@ -1,103 +1,156 @@
-// The bytes of a COPY: each touched slot's share is read from the source into a lent page and stored from there.
-ghost use mathlib.Core.Path.{_≡_};
-ghost use mathlib.Core.List.{List};
-ghost use Prim.Native.Nat.{ℕ, _+_, _-_};
+// COPY: as WRITE, with the bytes of another file.
+ghost use Prim.Native.Nat.{_+_, _-_, _<_, _≤_};
 ghost use lib.ListN.{length};
 ghost use Rattle.store.specs.Geometry.{geometryOf};
 ghost use Rattle.store.specs.Content.{byteAt};
-ghost use Rattle.store.specs.Edit.{within, storeSlot};
-ghost use Rattle.store.specs.Bytes.{SlotCopy, AllCopies, storeSlots};
-use crate::bytes::earlier;
-use crate::bytes::later;
-use crate::bytes::store_part;
+ghost use Rattle.store.specs.Copy.{editCopy};
+ghost use Rattle.store.specs.Bytes.{AllCopies};
+ghost use Rattle.store.specs.Edits.{EditPromise, RegionKnown, SlotsKnown, SourceKnown, CopyKnown, Finished};
+use crate::copy_bytes::copy_range;
 use crate::geometry::Geometry;
-use crate::read::read_bytes;
+use crate::plan::plan_write;
+use crate::write::grow;
+use crate::write::slot_count;
 
-// Slot k's share of a COPY of file s from soff on to the places from `off` up to `end`.
-fn copy_slot(
+// After a plan that was done: the bytes of file s from soff on at the places from `off` up to `end`, in the slots from `first` on
+// whose words went from `old` to `new`, and the size of file f.
+fn finish_copy(
     g: Geometry,
-    words: &[u32],
-    mem: &mut [u8],
-    s: usize,
-    soff: usize,
-    old: u32,
-    new: u32,
-    k: usize,
-    off: usize,
-    end: usize,
-    page: &mut [u8],
-)
-    requires { ⌜ SlotCopy (geometryOf g) (now words) (now mem) s soff old new k off end (length (now page)) ⌝ }
-    ensures { λ _. ⌜ ((sizes : List ℕ)
-        → now (mem .exit) ≡ storeSlot (geometryOf g) (within off end)
-        (λ p. byteAt (geometryOf g) (record { sizes = sizes; words = now (words .entry); mem = now (mem .entry) }) s (soff + (p - off)))
-        old new (now (mem .entry)) k) ⌝ }
-{
-    let p = k * g.block_size;
-    let a = later(off, p);
-    let n = earlier(end, p + g.block_size) - a;
-    read_bytes(g, words, mem, s, soff + (a - off), &mut page[..n]);
-    store_part(g, mem, old, new, a - p, &page[..n]);
-}
-
-// The slots from `first` on, whose words go from those of `old` to those of `new`, in that COPY. The source's bytes are those before it all along.
-pub fn copy_slots(
-    g: Geometry,
+    sizes: &mut [u64],
     words: &[u32],
     mem: &mut [u8],
     s: usize,
     soff: usize,
     old: &[u32],
     new: &[u32],
+    f: usize,
     first: usize,
     off: usize,
     end: usize,
-    page: &mut [u8],
 )
-    requires { ⌜ AllCopies (geometryOf g) (now words) (now mem) s soff (now old) (now new) first off end (length (now page)) ⌝ }
-    ensures { λ _. ⌜ ((sizes : List ℕ)
-        → now (mem .exit) ≡ storeSlots (geometryOf g) (within off end)
-        (λ p. byteAt (geometryOf g) (record { sizes = sizes; words = now (words .entry); mem = now (mem .entry) }) s (soff + (p - off)))
-        first (now (old .entry)) (now (new .entry)) (now (mem .entry)) 0 (length (now (old .entry)))) ⌝ }
+    requires { ⌜ AllCopies (geometryOf g) (now words) (now mem) s soff (now old) (now new) first off end 4096 × (f < length (now sizes)) ⌝ }
+    ensures { λ _. ⌜ Finished (geometryOf g)
+        (λ p. byteAt (geometryOf g) (record { sizes = now (sizes .entry); words = now (words .entry); mem = now (mem .entry) }) s (soff + (p - off)))
+        first (now (old .entry)) (now (new .entry)) f off end (now (sizes .entry)) (now (mem .entry)) (now (sizes .exit)) (now (mem .exit)) ⌝ }
 {
-    let mut i = 0;
-    while i < old.len() {
-        copy_slot(
-            g,
-            words,
-            mem,
-            s,
-            soff,
-            old[i],
-            new[i],
-            first + i,
-            off,
-            end,
-            page,
-        );
-        i += 1;
+    copy_range(g, words, mem, s, soff, old, new, first, off, end);
+    grow(sizes, f, end);
+}
+
+// A COPY of n bytes into the slots from `first` on, as many as `old` has words to save.
+fn copy_planned(
+    g: Geometry,
+    sizes: &mut [u64],
+    words: &mut [u32],
+    mem: &mut [u8],
+    counts: &mut [u32],
+    s: usize,
+    f: usize,
+    soff: usize,
+    first: usize,
+    off: usize,
+    n: usize,
+    old: &mut [u32],
+) -> bool
+    requires { ⌜ SlotsKnown (geometryOf g) (record { sizes = now sizes; words = now words; mem = now mem }) (now counts) f off (off + n) first (length (now old))
+        × SourceKnown (geometryOf g) (record { sizes = now sizes; words = now words; mem = now mem }) s f soff n ⌝ }
+    ensures { λ r. ⌜ EditPromise (geometryOf g) (record { sizes = now (sizes .entry); words = now (words .entry); mem = now (mem .entry) })
+        (editCopy (geometryOf g) (record { sizes = now (sizes .entry); words = now (words .entry); mem = now (mem .entry) }) s f soff off n)
+        r (record { sizes = now (sizes .exit); words = now (words .exit); mem = now (mem .exit) }) (now (counts .exit)) ⌝ }
+{
+    let i = f * g.slots + first;
+    let to = i + old.len();
+    let end = off + n;
+    if !plan_write(words, counts, i, old.len(), old) {
+        return false;
     }
+    let all = &words[..];
+    let new = &all[i..to];
+    finish_copy(g, sizes, all, mem, s, soff, old, new, f, first, off, end);
+    true
 }
 
-// The same, with a page of its own.
-pub fn copy_range(
+// A COPY of n bytes, at least one. `saved` has a word for each slot of a file.
+fn copy_saving(
     g: Geometry,
-    words: &[u32],
+    sizes: &mut [u64],
+    words: &mut [u32],
     mem: &mut [u8],
+    counts: &mut [u32],
     s: usize,
+    f: usize,
     soff: usize,
-    old: &[u32],
-    new: &[u32],
-    first: usize,
     off: usize,
-    end: usize,
-)
-    requires { ⌜ AllCopies (geometryOf g) (now words) (now mem) s soff (now old) (now new) first off end 4096 ⌝ }
-    ensures { λ _. ⌜ ((sizes : List ℕ)
-        → now (mem .exit) ≡ storeSlots (geometryOf g) (within off end)
-        (λ p. byteAt (geometryOf g) (record { sizes = sizes; words = now (words .entry); mem = now (mem .entry) }) s (soff + (p - off)))
-        first (now (old .entry)) (now (new .entry)) (now (mem .entry)) 0 (length (now (old .entry)))) ⌝ }
+    n: usize,
+    saved: &mut [u32],
+) -> bool
+    requires { ⌜ RegionKnown (geometryOf g) (record { sizes = now sizes; words = now words; mem = now mem }) (now counts) f off (off + n)
+        × (SourceKnown (geometryOf g) (record { sizes = now sizes; words = now words; mem = now mem }) s f soff n × (geometryOf g .S ≤ length (now saved))) ⌝ }
+    ensures { λ r. ⌜ EditPromise (geometryOf g) (record { sizes = now (sizes .entry); words = now (words .entry); mem = now (mem .entry) })
+        (editCopy (geometryOf g) (record { sizes = now (sizes .entry); words = now (words .entry); mem = now (mem .entry) }) s f soff off n)
+        r (record { sizes = now (sizes .exit); words = now (words .exit); mem = now (mem .exit) }) (now (counts .exit)) ⌝ }
 {
-    let mut page = [0u8; 4096];
-    copy_slots(g, words, mem, s, soff, old, new, first, off, end, &mut page);
+    let count = slot_count(g, off, off + n);
+    copy_planned(
+        g,
+        sizes,
+        words,
+        mem,
+        counts,
+        s,
+        f,
+        soff,
+        off / g.block_size,
+        off,
+        n,
+        &mut saved[..count],
+    )
+}
+
+// The same; it owns the words to save and only lends them.
+fn copy_some(
+    g: Geometry,
+    sizes: &mut [u64],
+    words: &mut [u32],
+    mem: &mut [u8],
+    counts: &mut [u32],
+    s: usize,
+    f: usize,
+    soff: usize,
+    off: usize,
+    n: usize,
+) -> bool
+    requires { ⌜ RegionKnown (geometryOf g) (record { sizes = now sizes; words = now words; mem = now mem }) (now counts) f off (off + n)
+        × SourceKnown (geometryOf g) (record { sizes = now sizes; words = now words; mem = now mem }) s f soff n ⌝ }
+    ensures { λ r. ⌜ EditPromise (geometryOf g) (record { sizes = now (sizes .entry); words = now (words .entry); mem = now (mem .entry) })
+        (editCopy (geometryOf g) (record { sizes = now (sizes .entry); words = now (words .entry); mem = now (mem .entry) }) s f soff off n)
+        r (record { sizes = now (sizes .exit); words = now (words .exit); mem = now (mem .exit) }) (now (counts .exit)) ⌝ }
+{
+    let mut saved = [0u32; 1024];
+    copy_saving(g, sizes, words, mem, counts, s, f, soff, off, n, &mut saved)
+}
+
+// Copies n bytes of file s from soff on to file f at `off`. Answers false, and changes nothing, exactly if the store would then
+// need more blocks than there are.
+pub fn copy_file(
+    g: Geometry,
+    sizes: &mut [u64],
+    words: &mut [u32],
+    mem: &mut [u8],
+    counts: &mut [u32],
+    s: usize,
+    f: usize,
+    soff: usize,
+    off: usize,
+    n: usize,
+) -> bool
+    requires { ⌜ CopyKnown (geometryOf g) (record { sizes = now sizes; words = now words; mem = now mem }) (now counts) s f soff off n ⌝ }
+    ensures { λ r. ⌜ EditPromise (geometryOf g) (record { sizes = now (sizes .entry); words = now (words .entry); mem = now (mem .entry) })
+        (editCopy (geometryOf g) (record { sizes = now (sizes .entry); words = now (words .entry); mem = now (mem .entry) }) s f soff off n)
+        r (record { sizes = now (sizes .exit); words = now (words .exit); mem = now (mem .exit) }) (now (counts .exit)) ⌝ }
+{
+    if n == 0 {
+        return true;
+    }
+    copy_some(g, sizes, words, mem, counts, s, f, soff, off, n)
 }

@@ -5,8 +5,8 @@ ghost use Rattle.store.specs.Geometry.{geometryOf};
 ghost use Rattle.store.specs.Deallocate.{editDeallocate};
 ghost use Rattle.store.specs.Edits.{EditPromise, CutKnown, RegionKnown, SlotsKnown};
 use crate::bytes::zero_edges;
+use crate::edit_plans::plan_deallocate;
 use crate::geometry::Geometry;
-use crate::plans::plan_deallocate;
 
 // A DEALLOCATE in the slots from `first` on, as many as `old` has words to save.
 fn cut_range(

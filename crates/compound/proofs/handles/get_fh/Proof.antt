@@ -26,7 +26,7 @@ returns c =
     let w = c .before .before in
     let t = w .before .before in
     let a = t .before .before .before .args in
-    λ v st counts next known counted. no-handle _ v (a .current) (a .saved) st GETFH next counted (a .current) refl (t .enum-told .given .1) (w .without-body .ensures)
+    λ g v st counts next known counted. no-handle g v (a .current) (a .saved) st GETFH next counted (a .current) refl (t .enum-told .given .1) (w .without-body .ensures)
 
 put-result-requires : tie.Need-put-result-requires
 put-result-requires c κs = search needs
@@ -54,8 +54,8 @@ returns-2 c =
     let m = w .before .before .before in
     let s = m .before .before .before in
     let a = s .args in
-    λ v st counts next known counted.
-    get-answer _ v (a .current) (a .saved) st next counted known (m .current .given .1) (omega (arith, s .pre .1))
+    λ g v st counts next known counted.
+    get-answer g v (a .current) (a .saved) st next counted known (m .current .given .1) (omega (arith, s .pre .1))
     (omega (arith, s .pre .1, w .put-result .kept .0, w .put-result .ensures .place)) (w .put-result .ensures) (w1 .put-u32 .ensures) (w2 .put-u322 .ensures)
 
 pub get-fh-spec : {M : Type 1} → statement M

@@ -26,7 +26,7 @@ returns c =
     let w = c .before .before in
     let t = w .before .before in
     let a = t .before .before .before .args in
-    λ v st counts next known counted. no-handle _ v (a .current) (a .saved) st SAVEFH next counted (a .current) refl (t .enum-told .given .1) (w .without-body .ensures)
+    λ g v st counts next known counted. no-handle g v (a .current) (a .saved) st SAVEFH next counted (a .current) refl (t .enum-told .given .1) (w .without-body .ensures)
 
 without-body-requires-2 : tie.Need-without-body-requires-2
 without-body-requires-2 c κs = search needs
@@ -41,8 +41,8 @@ returns-2 c =
     let m = w .before .before .before in
     let a = m .before .before .before .args in
     let e = m .current .given .1 in
-    λ v st counts next known counted.
-    moved-answer _ v (a .current) (a .saved) st SAVEFH next counted known (w .without-body2 .ensures)
+    λ g v st counts next known counted.
+    moved-answer g v (a .current) (a .saved) st SAVEFH next counted known (w .without-body2 .ensures)
     (has-handle (a .current) e) (ap (λ (u : Handle). stateOf u u st) e) refl
 
 pub save-fh-spec : {M : Type 1} → statement M

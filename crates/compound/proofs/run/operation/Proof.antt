@@ -87,7 +87,7 @@ returns c =
     let e = k .before .before in
     let s = e .before .before .before .before .before .before .before .before .before in
     let a = s .args in
-    by-case _ _ _ (a .s .now) (e .enum-told .given .1) (λ next. k .get-fh .ensures (a .v .now) (record { sizes = a .sizes .now; words = a .words .now; mem = a .mem .now }) (a .counts .now) next (s .pre .known) (s .pre .counted))
+    by-case _ _ _ (a .s .now) (e .enum-told .given .1) (λ next. k .get-fh .ensures _ (a .v .now) (record { sizes = a .sizes .now; words = a .words .now; mem = a .mem .now }) (a .counts .now) next (s .pre .known) (s .pre .counted))
 
 same-length-2 : tie.Need-same-length-2
 same-length-2 c = search needs
@@ -129,7 +129,7 @@ returns-4 c =
     let e = k .before .before in
     let s = e .before .before .before .before .before .before .before .before .before in
     let a = s .args in
-    by-case _ _ _ (a .s .now) (e .enum-told2 .given .1) (λ next. k .restore-fh .ensures (a .v .now) (record { sizes = a .sizes .now; words = a .words .now; mem = a .mem .now }) (a .counts .now) next (s .pre .known) (s .pre .counted))
+    by-case _ _ _ (a .s .now) (e .enum-told2 .given .1) (λ next. k .restore-fh .ensures _ (a .v .now) (record { sizes = a .sizes .now; words = a .words .now; mem = a .mem .now }) (a .counts .now) next (s .pre .known) (s .pre .counted))
 
 same-length-8 : tie.Need-same-length-8
 same-length-8 c = search needs
@@ -140,7 +140,7 @@ returns-5 c =
     let e = k .before .before in
     let s = e .before .before .before .before .before .before .before .before .before in
     let a = s .args in
-    by-case _ _ _ (a .s .now) (e .enum-told3 .given .1) (λ next. k .save-fh .ensures (a .v .now) (record { sizes = a .sizes .now; words = a .words .now; mem = a .mem .now }) (a .counts .now) next (s .pre .known) (s .pre .counted))
+    by-case _ _ _ (a .s .now) (e .enum-told3 .given .1) (λ next. k .save-fh .ensures _ (a .v .now) (record { sizes = a .sizes .now; words = a .words .now; mem = a .mem .now }) (a .counts .now) next (s .pre .known) (s .pre .counted))
 
 same-length-9 : tie.Need-same-length-9
 same-length-9 c = search needs

@@ -1,7 +1,7 @@
 use Rattle.store.proofs.WriteEdit.{region-room}
 use borrow.Author.Needs.{needs}
-use Rattle.store.proofs.copy_edit.copy_some.Statement.{statement}
-use Rattle.store.proofs.copy_edit.copy_some.Tie as tie
+use Rattle.store.proofs.copy.copy_some.Statement.{statement}
+use Rattle.store.proofs.copy.copy_some.Tie as tie
 
 slice-aggregate-copy-saving : tie.Need-slice-aggregate-copy-saving
 slice-aggregate-copy-saving c = search needs

@@ -7,8 +7,8 @@ use Rattle.store.specs.Geometry.{geometryOf}
 use Rattle.store.specs.Bytes.{storeSlots}
 use Rattle.store.proofs.StoreLaws.{slot-number, storing-end}
 use Rattle.store.proofs.CopyBytes.{Copying, copying-start, copying-ready, copying-turn}
-use Rattle.store.proofs.copy.copy_slots.Statement.{statement}
-use Rattle.store.proofs.copy.copy_slots.Tie as tie
+use Rattle.store.proofs.copy_bytes.copy_slots.Statement.{statement}
+use Rattle.store.proofs.copy_bytes.copy_slots.Tie as tie
 
 abbrev Inv-loop : tie.InvT-loop
 Inv-loop g words mem₀ s soff old new first off end page₀ i₀ mem page i =

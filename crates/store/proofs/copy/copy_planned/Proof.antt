@@ -3,8 +3,8 @@ use native.Mathlib.Omega.{arith}
 use Rattle.store.proofs.WriteEdit.{region-room, slots-inside, file-inside}
 use Rattle.store.proofs.CopyEdit.{copy-refused, copies-ready, copy-done}
 use borrow.Author.Needs.{needs}
-use Rattle.store.proofs.copy_edit.copy_planned.Statement.{statement}
-use Rattle.store.proofs.copy_edit.copy_planned.Tie as tie
+use Rattle.store.proofs.copy.copy_planned.Statement.{statement}
+use Rattle.store.proofs.copy.copy_planned.Tie as tie
 
 mul-i : tie.Need-mul-i
 mul-i c = let s = c .before .before .before .before .before .before in omega (arith, slots-inside (s .pre .0))

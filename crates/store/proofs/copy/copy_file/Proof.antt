@@ -1,8 +1,8 @@
 use native.Mathlib.Omega.{arith}
 use Rattle.store.proofs.CopyEdit.{copy-empty}
 use borrow.Author.Needs.{needs}
-use Rattle.store.proofs.copy_edit.copy_file.Statement.{statement}
-use Rattle.store.proofs.copy_edit.copy_file.Tie as tie
+use Rattle.store.proofs.copy.copy_file.Statement.{statement}
+use Rattle.store.proofs.copy.copy_file.Tie as tie
 
 returns : tie.Need-returns
 returns c = let s = c .before .before .before .before .before in copy-empty (s .pre .known) _ _ _ _ (c .if1 .taken)

@@ -3,8 +3,8 @@ use native.Mathlib.Omega.{arith}
 use lib.Seq.{length-take-le}
 use Rattle.store.proofs.WriteEdit.{region-room}
 use borrow.Author.Needs.{needs}
-use Rattle.store.proofs.copy_edit.copy_saving.Statement.{statement}
-use Rattle.store.proofs.copy_edit.copy_saving.Tie as tie
+use Rattle.store.proofs.copy.copy_saving.Statement.{statement}
+use Rattle.store.proofs.copy.copy_saving.Tie as tie
 
 add-slot-count : tie.Need-add-slot-count
 add-slot-count c = let s = c .before .before .before .before .before in omega (arith, region-room (s .pre .0))

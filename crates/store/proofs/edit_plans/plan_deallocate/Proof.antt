@@ -4,8 +4,8 @@ use native.Mathlib.Omega.{arith}
 use borrow.Author.Needs.{needs}
 use Rattle.store.proofs.DeallocateLaws.{giveBack-local}
 use Rattle.store.proofs.SettleLaws.{saved-is, saved-pool, plan-outside, own-stopped, own-settled}
-use Rattle.store.proofs.plans.plan_deallocate.Statement.{statement}
-use Rattle.store.proofs.plans.plan_deallocate.Tie as tie
+use Rattle.store.proofs.edit_plans.plan_deallocate.Statement.{statement}
+use Rattle.store.proofs.edit_plans.plan_deallocate.Tie as tie
 
 add-i : tie.Need-add-i
 add-i c = search needs

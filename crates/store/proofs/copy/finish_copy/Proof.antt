@@ -1,6 +1,6 @@
 use borrow.Author.Needs.{needs}
-use Rattle.store.proofs.copy_edit.finish_copy.Statement.{statement}
-use Rattle.store.proofs.copy_edit.finish_copy.Tie as tie
+use Rattle.store.proofs.copy.finish_copy.Statement.{statement}
+use Rattle.store.proofs.copy.finish_copy.Tie as tie
 
 copy-range-requires : tie.Need-copy-range-requires
 copy-range-requires c κs = search needs

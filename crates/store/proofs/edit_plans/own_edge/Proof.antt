@@ -1,8 +1,8 @@
 use mathlib.Core.Path.{sym, _∙_}
 use borrow.Author.Needs.{needs}
 use Rattle.store.proofs.OwnLaws.{slot-left, slot-asked}
-use Rattle.store.proofs.plans.own_edge.Statement.{statement}
-use Rattle.store.proofs.plans.own_edge.Tie as tie
+use Rattle.store.proofs.edit_plans.own_edge.Statement.{statement}
+use Rattle.store.proofs.edit_plans.own_edge.Tie as tie
 
 slot-stays-requires : tie.Need-slot-stays-requires
 slot-stays-requires c κs = search needs

@@ -3,8 +3,8 @@ use native.Mathlib.Omega.{arith}
 use Rattle.store.proofs.GeometryLaws.{good, file-most}
 use Rattle.store.proofs.CopyBytes.{page-lent, share-readable, share-lent, share-fits, copy-share}
 use borrow.Author.Needs.{needs}
-use Rattle.store.proofs.copy.copy_slot.Statement.{statement}
-use Rattle.store.proofs.copy.copy_slot.Tie as tie
+use Rattle.store.proofs.copy_bytes.copy_slot.Statement.{statement}
+use Rattle.store.proofs.copy_bytes.copy_slot.Tie as tie
 
 mul-p : tie.Need-mul-p
 mul-p c = search needs

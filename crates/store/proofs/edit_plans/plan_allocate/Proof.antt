@@ -1,9 +1,9 @@
 use native.Mathlib.Omega.{arith}
 use borrow.Author.Needs.{needs}
-use Rattle.store.proofs.CloneLaws.{share-local}
+use Rattle.store.proofs.AllocateLaws.{reserve-local}
 use Rattle.store.proofs.SettleLaws.{saved-pool, plan-outside, planned-settled}
-use Rattle.store.proofs.plans.plan_clone.Statement.{statement}
-use Rattle.store.proofs.plans.plan_clone.Tie as tie
+use Rattle.store.proofs.edit_plans.plan_allocate.Statement.{statement}
+use Rattle.store.proofs.edit_plans.plan_allocate.Tie as tie
 
 add-end : tie.Need-add-end
 add-end c = search needs
@@ -23,8 +23,8 @@ part-save-words-end c = search needs
 save-words-requires : tie.Need-save-words-requires
 save-words-requires c κs = search needs
 
-share-range-requires : tie.Need-share-range-requires
-share-range-requires c κs = search needs
+reserve-range-requires : tie.Need-reserve-range-requires
+reserve-range-requires c κs = search needs
 
 settle-requires : tie.Need-settle-requires
 settle-requires c κs =
@@ -32,7 +32,7 @@ settle-requires c κs =
     let k = o .before .before .before .before .before in
     let s = k .before .before .before .before .before .before .before in
     let a = s .args in
-    (o .share-range .ensures .counted, (omega arith, rw (o .share-range .kept .1 .0) (saved-pool _ (a .to) (a .n) _ (k .save-words .ensures) _ (s .pre .0 .pool))))
+    (o .reserve-range .ensures .counted, (omega arith, rw (o .reserve-range .kept .1 .0) (saved-pool _ (a .i) (a .n) _ (k .save-words .ensures) _ (s .pre .0 .pool))))
 
 same-length : tie.Need-same-length
 same-length c = search needs
@@ -50,12 +50,12 @@ returns c =
     let k = o .before .before .before .before .before in
     let s = k .before .before .before .before .before .before .before in
     let a = s .args in
-    planned-settled _ (a .to) (a .n) _ (k .save-words .ensures) (s .pre .1 .1 .0)
-    (plan-outside _ _ (share-local (a .from) (a .to)) 0 (a .n) (a .n) _ _ _ (omega arith) (omega arith) (o .share-range .ensures .words-are) (o .share-range .kept .0))
-    (o .share-range .ensures .words-are) (f .settle .ensures)
+    planned-settled _ (a .i) (a .n) _ (k .save-words .ensures) (s .pre .1 .0)
+    (plan-outside _ _ (reserve-local (a .i)) 0 (a .n) (a .n) _ _ _ (omega arith) (omega arith) (o .reserve-range .ensures .words-are) (o .reserve-range .kept .0))
+    (o .reserve-range .ensures .words-are) (f .settle .ensures)
 
-pub plan-clone-spec : {M : Type 1} → statement M
-plan-clone-spec =
+pub plan-allocate-spec : {M : Type 1} → statement M
+plan-allocate-spec =
     tie.close
     (tie.spec
     add-end
@@ -64,7 +64,7 @@ plan-clone-spec =
     part-save-words-start
     part-save-words-end
     save-words-requires
-    share-range-requires
+    reserve-range-requires
     settle-requires
     same-length
     same-length-2

@@ -1,0 +1,103 @@
+// The bytes of a COPY: each touched slot's share is read from the source into a lent page and stored from there.
+ghost use mathlib.Core.Path.{_≡_};
+ghost use mathlib.Core.List.{List};
+ghost use Prim.Native.Nat.{ℕ, _+_, _-_};
+ghost use lib.ListN.{length};
+ghost use Rattle.store.specs.Geometry.{geometryOf};
+ghost use Rattle.store.specs.Content.{byteAt};
+ghost use Rattle.store.specs.Edit.{within, storeSlot};
+ghost use Rattle.store.specs.Bytes.{SlotCopy, AllCopies, storeSlots};
+use crate::bytes::earlier;
+use crate::bytes::later;
+use crate::bytes::store_part;
+use crate::geometry::Geometry;
+use crate::read::read_bytes;
+
+// Slot k's share of a COPY of file s from soff on to the places from `off` up to `end`.
+fn copy_slot(
+    g: Geometry,
+    words: &[u32],
+    mem: &mut [u8],
+    s: usize,
+    soff: usize,
+    old: u32,
+    new: u32,
+    k: usize,
+    off: usize,
+    end: usize,
+    page: &mut [u8],
+)
+    requires { ⌜ SlotCopy (geometryOf g) (now words) (now mem) s soff old new k off end (length (now page)) ⌝ }
+    ensures { λ _. ⌜ ((sizes : List ℕ)
+        → now (mem .exit) ≡ storeSlot (geometryOf g) (within off end)
+        (λ p. byteAt (geometryOf g) (record { sizes = sizes; words = now (words .entry); mem = now (mem .entry) }) s (soff + (p - off)))
+        old new (now (mem .entry)) k) ⌝ }
+{
+    let p = k * g.block_size;
+    let a = later(off, p);
+    let n = earlier(end, p + g.block_size) - a;
+    read_bytes(g, words, mem, s, soff + (a - off), &mut page[..n]);
+    store_part(g, mem, old, new, a - p, &page[..n]);
+}
+
+// The slots from `first` on, whose words go from those of `old` to those of `new`, in that COPY. The source's bytes are those before it all along.
+pub fn copy_slots(
+    g: Geometry,
+    words: &[u32],
+    mem: &mut [u8],
+    s: usize,
+    soff: usize,
+    old: &[u32],
+    new: &[u32],
+    first: usize,
+    off: usize,
+    end: usize,
+    page: &mut [u8],
+)
+    requires { ⌜ AllCopies (geometryOf g) (now words) (now mem) s soff (now old) (now new) first off end (length (now page)) ⌝ }
+    ensures { λ _. ⌜ ((sizes : List ℕ)
+        → now (mem .exit) ≡ storeSlots (geometryOf g) (within off end)
+        (λ p. byteAt (geometryOf g) (record { sizes = sizes; words = now (words .entry); mem = now (mem .entry) }) s (soff + (p - off)))
+        first (now (old .entry)) (now (new .entry)) (now (mem .entry)) 0 (length (now (old .entry)))) ⌝ }
+{
+    let mut i = 0;
+    while i < old.len() {
+        copy_slot(
+            g,
+            words,
+            mem,
+            s,
+            soff,
+            old[i],
+            new[i],
+            first + i,
+            off,
+            end,
+            page,
+        );
+        i += 1;
+    }
+}
+
+// The same, with a page of its own.
+pub fn copy_range(
+    g: Geometry,
+    words: &[u32],
+    mem: &mut [u8],
+    s: usize,
+    soff: usize,
+    old: &[u32],
+    new: &[u32],
+    first: usize,
+    off: usize,
+    end: usize,
+)
+    requires { ⌜ AllCopies (geometryOf g) (now words) (now mem) s soff (now old) (now new) first off end 4096 ⌝ }
+    ensures { λ _. ⌜ ((sizes : List ℕ)
+        → now (mem .exit) ≡ storeSlots (geometryOf g) (within off end)
+        (λ p. byteAt (geometryOf g) (record { sizes = sizes; words = now (words .entry); mem = now (mem .entry) }) s (soff + (p - off)))
+        first (now (old .entry)) (now (new .entry)) (now (mem .entry)) 0 (length (now (old .entry)))) ⌝ }
+{
+    let mut page = [0u8; 4096];
+    copy_slots(g, words, mem, s, soff, old, new, first, off, end, &mut page);
+}

@@ -1,0 +1,216 @@
+//! Makes the calls of a seed, each with the store before it in view.
+
+mod aims;
+mod operations;
+mod stories;
+mod wrong;
+
+use second::{Geometry, Store, REPLY_MIN};
+
+use crate::dice::Dice;
+use crate::list::{Call, Damage, Edit, Lent, Request};
+use crate::pair::REPLY_MAX;
+
+/// The geometry with 256 MiB of memory has one seed in so many, the one with 32 MiB another.
+const LARGEST_EVERY: u64 = 100_000;
+const LARGE_EVERY: u64 = 10_000;
+
+const OPERATIONS_MAX: u64 = 12;
+
+pub struct Generator {
+    pub geometry: Geometry,
+    dice: Dice,
+}
+
+impl Generator {
+    pub fn new(seed: u64) -> Generator {
+        let mut dice = Dice::new(seed);
+        let geometry = match seed {
+            _ if seed.is_multiple_of(LARGEST_EVERY) => largest(4096),
+            _ if seed.is_multiple_of(LARGE_EVERY) => largest(512),
+            _ => small(&mut dice),
+        };
+        Generator { geometry, dice }
+    }
+
+    /// A generator of calls for one geometry.
+    pub fn with_geometry(geometry: Geometry, seed: u64) -> Generator {
+        let dice = Dice::new(seed);
+        Generator { geometry, dice }
+    }
+
+    /// How many calls the list has.
+    pub fn calls(&mut self) -> u64 {
+        match self.geometry.blocks * self.geometry.block_size {
+            0..=1_000_000 => self.dice.within(12..=40),
+            _ => 12,
+        }
+    }
+
+    /// The next call, any arguments but the store wrong now and then.
+    pub fn call(&mut self, store: &Store) -> Call {
+        let mut maker = self.maker(store);
+        match maker.dice.below(100) {
+            0..=71 => maker.usual(),
+            72..=83 => maker.damaged(),
+            84..=91 => maker.odd_header(),
+            _ => maker.wrong_arguments(),
+        }
+    }
+
+    /// The bytes of a request, damaged now and then.
+    pub fn request(&mut self, store: &Store) -> Vec<u8> {
+        let mut maker = self.maker(store);
+        let call = match maker.dice.below(20) {
+            0 => maker.damaged(),
+            _ => maker.usual(),
+        };
+        call.request.bytes()
+    }
+
+    pub fn damage(&mut self, store: &Store) -> Damage {
+        self.maker(store).damage()
+    }
+
+    fn maker<'a>(&'a mut self, store: &'a Store) -> Maker<'a> {
+        Maker {
+            dice: &mut self.dice,
+            geometry: self.geometry,
+            store,
+        }
+    }
+}
+
+fn largest(block_size: u64) -> Geometry {
+    Geometry {
+        files: 64,
+        slots: 1024,
+        blocks: 65_536,
+        block_size,
+    }
+}
+
+/// Few files, slots and blocks, now and then many of one of them.
+fn small(dice: &mut Dice) -> Geometry {
+    let mut geometry = Geometry {
+        files: dice.within(1..=4),
+        slots: dice.within(1..=8),
+        blocks: 1,
+        block_size: dice.pick(&[512, 1024, 2048, 4096]),
+    };
+    match dice.below(60) {
+        0 => geometry.files = 64,
+        1 => geometry.slots = 1024,
+        _ => {}
+    }
+    let slots = geometry.files * geometry.slots;
+    geometry.blocks = match dice.below(60) {
+        0 => 1024,
+        _ => dice.within(1..=slots.min(14) + 2),
+    };
+    geometry
+}
+
+/// One call in the making.
+struct Maker<'a> {
+    dice: &'a mut Dice,
+    geometry: Geometry,
+    store: &'a Store,
+}
+
+impl Maker<'_> {
+    /// A compound with nothing wrong but what its operations have.
+    fn usual(&mut self) -> Call {
+        let mut request = Request::of(self.operations());
+        request.tag = self.tag();
+        Call {
+            request,
+            verifier: self.dice.bytes(8),
+            reply_length: self
+                .dice
+                .pick(&[REPLY_MIN, REPLY_MIN, REPLY_MIN + 1, REPLY_MAX]),
+            lent: Lent::default(),
+        }
+    }
+
+    fn tag(&mut self) -> Vec<u8> {
+        let length = match self.dice.below(40) {
+            0 => self.dice.within(1021..=1024),
+            1..=9 => self.dice.below(14),
+            _ => 0,
+        };
+        self.dice.bytes(length as usize)
+    }
+
+    fn operations(&mut self) -> Vec<Vec<u8>> {
+        let mut operations = self.story();
+        if self.dice.once_in(14) {
+            let index = self.dice.below(operations.len() as u64 + 1) as usize;
+            operations.insert(index, self.odd());
+        }
+        if self.dice.once_in(24) {
+            let index = self.dice.below(operations.len() as u64) as usize;
+            operations.remove(index);
+        }
+        if !self.dice.once_in(40) {
+            operations.truncate(OPERATIONS_MAX as usize);
+        }
+        operations
+    }
+
+    /// A compound cut or changed at any bytes.
+    fn damaged(&mut self) -> Call {
+        let mut call = self.usual();
+        let length = call.request.bytes().len() as u64;
+        for _ in 0..self.dice.within(1..=3) {
+            let at = self.dice.below(length) as usize;
+            let edit = match self.dice.below(4) {
+                0 => Edit::Cut { length: at },
+                _ => Edit::Set {
+                    at,
+                    byte: self.byte(),
+                },
+            };
+            call.request.edits.push(edit);
+        }
+        call
+    }
+
+    fn byte(&mut self) -> u8 {
+        let any = self.dice.any() as u8;
+        self.dice.pick(&[0, 1, 2, 4, 255, any, any])
+    }
+
+    /// A compound whose tag, minor version or operation count is peculiar.
+    fn odd_header(&mut self) -> Call {
+        let mut call = self.usual();
+        let request = &mut call.request;
+        let operations = request.operations.len() as u32;
+        match self.dice.below(8) {
+            0 => request.minor_version = self.dice.pick(&[0, 1, 3, 4, u32::MAX]),
+            1 => request.count = Some(self.dice.pick(&[12, 13, 14, 1 << 16, u32::MAX])),
+            2 => request.count = Some(operations + 1),
+            3 => request.count = Some(operations.saturating_sub(1)),
+            4 => request.count = Some(0),
+            5 => request.tag = self.dice.bytes(1024),
+            6 => request.tag = self.dice.bytes(1025),
+            _ => request.edits.push(self.tag_damage(&mut request.tag)),
+        }
+        if self.dice.once_in(6) {
+            call.request.minor_version = 1;
+        }
+        call
+    }
+
+    /// A tag with a length out of all proportion, or with a pad that isn't zero.
+    fn tag_damage(&mut self, tag: &mut Vec<u8>) -> Edit {
+        if self.dice.once_in(2) {
+            let at = self.dice.below(3) as usize;
+            return Edit::Set { at, byte: 255 };
+        }
+        let pad = self.dice.within(1..=3) as usize;
+        *tag = self.dice.bytes(8 - pad);
+        let at = 12 - 1 - self.dice.below(pad as u64) as usize;
+        Edit::Set { at, byte: 1 }
+    }
+}

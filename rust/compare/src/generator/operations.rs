@@ -1,0 +1,226 @@
+//! The operations, each with arguments for a file.
+
+use super::Maker;
+use crate::wire::{self, Transfer};
+
+/// The most data that a WRITE has.
+const DATA_MAX: u64 = 60_000;
+
+impl Maker<'_> {
+    pub fn putfh(&mut self, file: usize) -> Vec<u8> {
+        match self.dice.below(60) {
+            0 => self.odd_handle(),
+            _ => wire::putfh_file(file),
+        }
+    }
+
+    fn odd_handle(&mut self) -> Vec<u8> {
+        let files = self.geometry.files as u32;
+        let stale = self.dice.pick(&[files, files + 1, 1 << 24, u32::MAX]);
+        let length = self.dice.pick(&[0, 1, 3, 5, 8, 127, 128, 129, 132]);
+        match self.dice.below(4) {
+            0 => wire::putfh(&stale.to_be_bytes()),
+            1 | 2 => wire::putfh(&vec![0; length]),
+            _ => self.claiming(wire::putfh(&[0; 4]), 4),
+        }
+    }
+
+    /// The operation with another number where a length or an enum stands.
+    fn claiming(&mut self, mut operation: Vec<u8>, at: usize) -> Vec<u8> {
+        let small = self.dice.below(9) as u32;
+        let large = u32::MAX - self.dice.below(5) as u32;
+        let value = self.dice.pick(&[small, large, 129, 1 << 31]);
+        operation[at..at + 4].copy_from_slice(&value.to_be_bytes());
+        operation
+    }
+
+    /// READ, READ_PLUS or SEEK.
+    pub fn look(&mut self, file: usize) -> Vec<u8> {
+        let number = self
+            .dice
+            .pick(&[wire::READ, wire::READ_PLUS, wire::READ_PLUS, wire::SEEK]);
+        let count = match number {
+            wire::SEEK => self.sought(),
+            _ => self.count(),
+        };
+        wire::look(number, self.reading(), self.place(file), count)
+    }
+
+    /// What SEEK looks for.
+    fn sought(&mut self) -> u32 {
+        match self.dice.below(20) {
+            0 => self.dice.pick(&[2, 3, 1 << 24, u32::MAX]),
+            other => (other % 2) as u32,
+        }
+    }
+
+    pub fn write(&mut self, file: usize) -> Vec<u8> {
+        let offset = self.offset(file);
+        let most = self.dice.pick(&[5000, 9000, DATA_MAX]);
+        let length = self.length(file, offset).min(most);
+        self.write_at(offset, length)
+    }
+
+    /// WRITE of that many bytes, or as many as a request has room for.
+    pub fn write_at(&mut self, offset: u64, length: u64) -> Vec<u8> {
+        let length = length.min(DATA_MAX) as usize;
+        let data = match self.dice.below(10) {
+            0 => vec![0; length],
+            _ => self.dice.bytes(length),
+        };
+        let stable = self.dice.below(3) as u32;
+        wire::write(self.writing(), offset, stable, &data)
+    }
+
+    pub fn allocate(&mut self, file: usize) -> Vec<u8> {
+        let offset = self.offset(file);
+        let length = self.length(file, offset);
+        self.allocate_at(offset, length)
+    }
+
+    pub fn allocate_at(&mut self, offset: u64, length: u64) -> Vec<u8> {
+        wire::region(wire::ALLOCATE, self.writing(), offset, length)
+    }
+
+    pub fn deallocate(&mut self, file: usize) -> Vec<u8> {
+        let (offset, length) = match self.dice.below(2) {
+            0 => self.within_slots(file),
+            _ => {
+                let offset = self.offset(file);
+                (offset, self.length(file, offset))
+            }
+        };
+        wire::region(wire::DEALLOCATE, self.writing(), offset, length)
+    }
+
+    /// A region below the size from inside one slot to inside another.
+    fn within_slots(&mut self, file: usize) -> (u64, u64) {
+        let b = self.block_size();
+        let slots = self.size(file).min(self.capacity()).div_ceil(b).max(1);
+        let first = self.dice.below(slots);
+        let last = first + self.dice.below(slots - first);
+        let start = first * b + self.dice.pick(&[0, 1, b / 2, b - 1]);
+        let end = last * b + self.dice.pick(&[1, b / 2, b - 1, b]);
+        (start, end.saturating_sub(start))
+    }
+
+    pub fn edit(&mut self, file: usize) -> Vec<u8> {
+        match self.dice.below(8) {
+            0..=3 => self.write(file),
+            4..=5 => self.allocate(file),
+            _ => self.deallocate(file),
+        }
+    }
+
+    pub fn copy(&mut self, source: usize, target: usize) -> Vec<u8> {
+        let (from, count) = self.part(source);
+        let to = self.offset(target);
+        let flags = match self.dice.below(40) {
+            0 => self.dice.pick(&[[2, 1, 0], [0, u32::MAX, 0], [256, 0, 0]]),
+            1 => self
+                .dice
+                .pick(&[[1, 1, 1], [0, 0, u32::MAX], [1, 1, 1 << 24]]),
+            other => [(other % 2) as u32, (other / 2 % 2) as u32, 0],
+        };
+        self.transfer([from, to], count).copy_op(flags)
+    }
+
+    /// An offset and a count of the source, mostly within its size.
+    fn part(&mut self, source: usize) -> (u64, u64) {
+        let size = self.size(source);
+        let from = match self.dice.below(16) {
+            0 => self.offset(source),
+            1 => size,
+            2..=7 => self.edge_below(size),
+            _ => self.dice.below(size + 1),
+        };
+        let to_end = size.saturating_sub(from);
+        let count = match self.dice.below(16) {
+            0..=2 => 0,
+            3..=5 => to_end,
+            6 => to_end + 1,
+            7 => self.length(source, from),
+            _ => self.length(source, from).min(to_end),
+        };
+        (from, count)
+    }
+
+    /// The start of a slot that begins below the size.
+    fn edge_below(&mut self, size: u64) -> u64 {
+        let b = self.block_size();
+        self.dice.below(size.div_ceil(b).max(1)) * b
+    }
+
+    pub fn clone(&mut self, source: usize, target: usize) -> Vec<u8> {
+        if self.dice.once_in(10) {
+            let (from, count) = self.part(source);
+            let to = self.offset(target);
+            return self.transfer([from, to], count).clone_op();
+        }
+        let b = self.block_size();
+        let from = self.edge_below(self.size(source));
+        let to_end = self.size(source).saturating_sub(from);
+        let count = match self.dice.below(4) {
+            0 => to_end,
+            1 => 0,
+            _ => (b * self.dice.within(1..=3)).min(to_end / b * b),
+        };
+        let mut to = self.slot() * b;
+        if source == target && to.abs_diff(from) < count {
+            to = from + count.next_multiple_of(b);
+        }
+        self.transfer([from, to], count).clone_op()
+    }
+
+    pub fn transfer(&mut self, offsets: [u64; 2], count: u64) -> Transfer {
+        Transfer {
+            stateids: [self.reading(), self.writing()],
+            offsets,
+            count,
+        }
+    }
+
+    /// An operation that isn't served, or whose arguments don't decode.
+    pub fn odd(&mut self) -> Vec<u8> {
+        let file = self.file();
+        match self.dice.below(10) {
+            0 => wire::int(wire::SEQUENCE),
+            1..=2 => wire::int(self.dice.within(3..=71) as u32),
+            3 => wire::int(self.dice.pick(&[0, 1, 2, 72, 73, 256, 10044, u32::MAX])),
+            4 => self.odd_handle(),
+            5..=6 => self.odd_write(file),
+            _ => self.short(file),
+        }
+    }
+
+    /// WRITE with a stable_how, a length or a pad that doesn't decode.
+    fn odd_write(&mut self, file: usize) -> Vec<u8> {
+        const STABLE: usize = 28;
+        const LENGTH: usize = 32;
+        let offset = self.offset(file);
+        let length = self.dice.within(1..=7);
+        let mut write = self.write_at(offset, length);
+        match self.dice.below(3) {
+            0 => self.claiming(write, STABLE),
+            1 => self.claiming(write, LENGTH),
+            _ => {
+                let end = write.len();
+                write[end - 1] = 1;
+                write
+            }
+        }
+    }
+
+    /// An operation without some of its last bytes.
+    fn short(&mut self, file: usize) -> Vec<u8> {
+        let mut operation = match self.dice.below(5) {
+            0 => self.copy(file, file),
+            1 => self.clone(file, file),
+            2 => self.look(file),
+            _ => self.edit(file),
+        };
+        let cut = self.dice.within(1..=operation.len().min(40) as u64);
+        operation.truncate(operation.len() - cut as usize);
+        operation
+    }
+}

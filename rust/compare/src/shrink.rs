@@ -1,0 +1,85 @@
+//! Makes a list short by leaving out what isn't needed.
+
+use crate::list::{Call, Lent, List, Step};
+
+/// Leaves out steps and parts of steps, one after the other, as long as the list fails.
+pub fn shrink(mut list: List, fails: impl Fn(&List) -> bool) -> List {
+    loop {
+        let steps_left_out = leave_out_steps(&mut list, &fails);
+        let parts_left_out = leave_out_parts(&mut list, &fails);
+        if !steps_left_out && !parts_left_out {
+            return list;
+        }
+    }
+}
+
+/// Tries long runs of steps first.
+fn leave_out_steps(list: &mut List, fails: &impl Fn(&List) -> bool) -> bool {
+    let before = list.steps.len();
+    let mut length = before;
+    while length > 0 {
+        let mut start = 0;
+        while start + length <= list.steps.len() {
+            let mut shorter = list.clone();
+            shorter.steps.drain(start..start + length);
+            if fails(&shorter) {
+                *list = shorter;
+            } else {
+                start += length;
+            }
+        }
+        length /= 2;
+    }
+    list.steps.len() < before
+}
+
+fn leave_out_parts(list: &mut List, fails: &impl Fn(&List) -> bool) -> bool {
+    let mut any = false;
+    for index in 0..list.steps.len() {
+        while let Some(shorter) = with_less(list, index).into_iter().find(fails) {
+            *list = shorter;
+            any = true;
+        }
+    }
+    any
+}
+
+/// The list with one part left out of one step, in every way.
+fn with_less(list: &List, index: usize) -> Vec<List> {
+    let Step::Serve(call) = &list.steps[index] else {
+        return Vec::new();
+    };
+    let with = |call| {
+        let mut list = list.clone();
+        list.steps[index] = Step::Serve(call);
+        list
+    };
+    less(call).into_iter().map(with).collect()
+}
+
+/// The call with one operation or one peculiarity less, in every way.
+fn less(call: &Call) -> Vec<Call> {
+    let mut calls = Vec::new();
+    let mut add = |is_less: bool, change: &dyn Fn(&mut Call)| {
+        if is_less {
+            let mut call = call.clone();
+            change(&mut call);
+            calls.push(call);
+        }
+    };
+    let request = &call.request;
+    for index in 0..request.operations.len() {
+        add(true, &|call| {
+            call.request.operations.remove(index);
+        });
+    }
+    for index in 0..request.edits.len() {
+        add(true, &|call| {
+            call.request.edits.remove(index);
+        });
+    }
+    add(!request.tag.is_empty(), &|call| call.request.tag.clear());
+    add(request.count.is_some(), &|call| call.request.count = None);
+    add(!call.lent.is_usual(), &|call| call.lent = Lent::default());
+    calls
+}

@@ -1,0 +1,247 @@
+//! The comparison itself, tried on servers with one fault each.
+
+use compare::{differs, try_seed, Answer, Found, List, Second, Server, Step, Tally};
+use second::{Geometry, Store};
+
+/// The plain program, with a fault in what it serves.
+struct Serving<F>(F);
+
+/// A served call, as the fault sees and changes it.
+struct Scene<'a> {
+    geometry: &'a Geometry,
+    before: &'a Store,
+    after: &'a mut Store,
+    reply: &'a mut [u8],
+    answer: &'a mut Answer,
+}
+
+impl Scene<'_> {
+    /// The blocks that slots hold, by number from 1 on.
+    fn holders(words: &[u32], block: u32) -> usize {
+        words.iter().filter(|word| *word / 2 == block).count()
+    }
+
+    /// Whether a slot took a block of its own in place of a shared one.
+    fn is_unshared(&self) -> bool {
+        let (before, after) = (&self.before.words, &self.after.words);
+        before.iter().zip(after).any(|(old, new)| {
+            let (old, new) = (old / 2, new / 2);
+            let shared = old != 0 && Scene::holders(before, old) > 1;
+            shared && new != 0 && new != old && Scene::holders(after, new) == 1
+        })
+    }
+
+    /// The blocks that were held before the call and are free after it.
+    fn freed(&self) -> Vec<usize> {
+        let blocks = 1..=self.geometry.blocks as u32;
+        let is_freed = |block: &u32| {
+            Scene::holders(&self.before.words, *block) > 0
+                && Scene::holders(&self.after.words, *block) == 0
+        };
+        blocks.filter(is_freed).map(|b| b as usize - 1).collect()
+    }
+}
+
+impl<F: Fn(Scene)> Server for Serving<F> {
+    fn make_empty(&self, geometry: &Geometry, store: &mut Store) -> u32 {
+        Second.make_empty(geometry, store)
+    }
+
+    fn soundness(&self, geometry: &Geometry, store: &Store) -> u32 {
+        Second.soundness(geometry, store)
+    }
+
+    fn count_blocks(&self, geometry: &Geometry, store: &Store) -> Answer {
+        Second.count_blocks(geometry, store)
+    }
+
+    fn serve(
+        &self,
+        geometry: &Geometry,
+        store: &mut Store,
+        verifier: &[u8],
+        request: &[u8],
+        reply: &mut [u8],
+    ) -> Answer {
+        let before = store.clone();
+        let mut answer = Second.serve(geometry, store, verifier, request, reply);
+        (self.0)(Scene {
+            geometry,
+            before: &before,
+            after: store,
+            reply,
+            answer: &mut answer,
+        });
+        answer
+    }
+}
+
+/// The plain program, judging another store than the one it is given.
+struct Judging<F>(F);
+
+impl<F: Fn(&mut Store)> Judging<F> {
+    fn seen(&self, store: &Store) -> Store {
+        let mut store = store.clone();
+        (self.0)(&mut store);
+        store
+    }
+}
+
+impl<F: Fn(&mut Store)> Server for Judging<F> {
+    fn make_empty(&self, geometry: &Geometry, store: &mut Store) -> u32 {
+        Second.make_empty(geometry, store)
+    }
+
+    fn soundness(&self, geometry: &Geometry, store: &Store) -> u32 {
+        Second.soundness(geometry, &self.seen(store))
+    }
+
+    fn count_blocks(&self, geometry: &Geometry, store: &Store) -> Answer {
+        Second.count_blocks(geometry, &self.seen(store))
+    }
+
+    fn serve(
+        &self,
+        geometry: &Geometry,
+        store: &mut Store,
+        verifier: &[u8],
+        request: &[u8],
+        reply: &mut [u8],
+    ) -> Answer {
+        Second.serve(geometry, store, verifier, request, reply)
+    }
+}
+
+/// The first difference of a faulty server, whose list must be as short as can be.
+fn found(server: &dyn Server) -> Found {
+    let servers = [server, &Second];
+    let found = (1..=300)
+        .find_map(|seed| try_seed(seed, servers, &mut Tally::default()).err())
+        .expect("the fault is found");
+    assert!(differs(&found.list, servers).is_some());
+    for shorter in shorter_lists(&found.list) {
+        assert!(differs(&shorter, servers).is_none(), "{}", found.list);
+    }
+    *found
+}
+
+/// The list without one step or one operation, in every way.
+fn shorter_lists(list: &List) -> Vec<List> {
+    let mut lists = Vec::new();
+    for (index, step) in list.steps.iter().enumerate() {
+        let mut shorter = list.clone();
+        shorter.steps.remove(index);
+        lists.push(shorter);
+        if let Step::Serve(call) = step {
+            for place in 0..call.request.operations.len() {
+                let mut call = call.clone();
+                call.request.operations.remove(place);
+                let mut shorter = list.clone();
+                shorter.steps[index] = Step::Serve(call);
+                lists.push(shorter);
+            }
+        }
+    }
+    lists
+}
+
+fn operations(list: &List) -> usize {
+    let of = |step: &Step| match step {
+        Step::Serve(call) => call.request.operations.len(),
+        Step::Damage(_) => 0,
+    };
+    list.steps.iter().map(of).sum()
+}
+
+#[test]
+fn the_plain_program_agrees_with_itself_and_meets_everything() {
+    let mut tally = Tally::default();
+    for seed in 1..=2500 {
+        let same = try_seed(seed, [&Second, &Second], &mut tally);
+        assert!(same.is_ok(), "seed {seed}");
+    }
+    assert_eq!(tally.lists, 2500);
+    assert_eq!(tally.missing(), [""; 0]);
+    assert_eq!(tally.strange(), [""; 0]);
+}
+
+#[test]
+fn a_reply_byte_of_a_write_into_a_shared_slot() {
+    let found = found(&Serving(|scene: Scene| {
+        if scene.is_unshared() {
+            scene.reply[scene.answer.counts[1] as usize - 1] ^= 1;
+        }
+    }));
+    assert!(found.difference.what.starts_with("reply at"));
+    // A handle, a WRITE, a CLONE and one more edit, with the handles for them.
+    assert!(operations(&found.list) <= 8, "{}", found.list);
+}
+
+#[test]
+fn a_size_that_is_off_by_one() {
+    let found = found(&Serving(|scene: Scene| {
+        let sizes = scene.after.sizes.iter_mut().zip(&scene.before.sizes);
+        for (size, before) in sizes {
+            *size += u64::from(*size > *before);
+        }
+    }));
+    assert_eq!(found.list.steps.len(), 1);
+    assert_eq!(operations(&found.list), 2, "{}", found.list);
+}
+
+#[test]
+fn a_freed_block_that_is_cleared() {
+    let found = found(&Serving(|scene: Scene| {
+        let b = scene.geometry.block_size as usize;
+        for block in scene.freed() {
+            scene.after.mem[block * b..(block + 1) * b].fill(0);
+        }
+    }));
+    assert!(found.difference.what.starts_with("memory at"));
+    assert!(operations(&found.list) <= 6, "{}", found.list);
+}
+
+#[test]
+fn bytes_read_of_an_operation_that_does_not_decode() {
+    let found = found(&Serving(|scene: Scene| {
+        if scene.reply.starts_with(&10064u32.to_be_bytes()) && scene.answer.number == 0 {
+            scene.answer.counts[0] += 4;
+        }
+    }));
+    assert!(found.difference.what.starts_with("serve"));
+    assert_eq!(operations(&found.list), 1, "{}", found.list);
+}
+
+#[test]
+fn a_refused_call_that_writes() {
+    for number in 1..=6 {
+        let found = found(&Serving(|scene: Scene| {
+            let refused = scene.answer.number == number;
+            if let Some(byte) = scene.reply.last_mut().filter(|_| refused) {
+                *byte ^= 1;
+            }
+        }));
+        assert!(found.difference.what.starts_with("reply at"));
+    }
+}
+
+#[test]
+fn a_byte_past_a_size_that_goes_unseen() {
+    let found = found(&Judging(|store: &mut Store| store.mem.fill(0)));
+    assert!(found.difference.what.starts_with("soundness"));
+    let damages = |step: &&Step| matches!(step, Step::Damage(_));
+    assert_eq!(found.list.steps.iter().filter(damages).count(), 1);
+    assert!(found.list.to_string().contains("WRITE"));
+}
+
+#[test]
+fn a_reserve_that_is_counted_for_holes_alone() {
+    let found = found(&Judging(|store: &mut Store| {
+        for word in &mut store.words {
+            *word &= if *word > 1 { !1 } else { !0 };
+        }
+    }));
+    // The clone of a reserved slot owes a block.
+    assert!(found.difference.what.starts_with("count_blocks"));
+    assert!(found.list.to_string().contains("CLONE"));
+}

@@ -1,0 +1,191 @@
+//! The proved server as safe Rust over slices.
+//!
+//! The calls take any arguments: what doesn't fit is refused by its number, and nothing is changed.
+//! So nothing is checked here. A thread that calls needs somewhat more than 512 KiB of stack.
+
+/// Files F, slots per file S, blocks in the pool N, bytes per block B.
+#[derive(Clone, Copy, Debug, PartialEq, Eq)]
+pub struct Geometry {
+    pub files: u64,
+    pub slots: u64,
+    pub blocks: u64,
+    pub block_size: u64,
+}
+
+/// A call's number, 0 or a refusal, and its two counts.
+#[derive(Clone, Copy, Debug, PartialEq, Eq)]
+pub struct Answer {
+    pub number: u32,
+    pub counts: [u64; 2],
+}
+
+/// What the counts hold before a call; every call sets both.
+const UNSET: [u64; 2] = [u64::MAX; 2];
+
+mod archive {
+    extern "C" {
+        pub fn store_make_empty(
+            files: u64,
+            slots: u64,
+            blocks: u64,
+            block_size: u64,
+            sizes: *mut u64,
+            sizes_len: usize,
+            words: *mut u32,
+            words_len: usize,
+            mem: *mut u8,
+            mem_len: usize,
+        ) -> u32;
+
+        pub fn store_soundness(
+            files: u64,
+            slots: u64,
+            blocks: u64,
+            block_size: u64,
+            sizes: *const u64,
+            sizes_len: usize,
+            words: *const u32,
+            words_len: usize,
+            mem: *const u8,
+            mem_len: usize,
+        ) -> u32;
+
+        pub fn store_count_blocks(
+            files: u64,
+            slots: u64,
+            blocks: u64,
+            block_size: u64,
+            sizes: *const u64,
+            sizes_len: usize,
+            words: *const u32,
+            words_len: usize,
+            mem: *const u8,
+            mem_len: usize,
+            counts: *mut u64,
+        ) -> u32;
+
+        pub fn compound_serve(
+            files: u64,
+            slots: u64,
+            blocks: u64,
+            block_size: u64,
+            sizes: *mut u64,
+            sizes_len: usize,
+            words: *mut u32,
+            words_len: usize,
+            mem: *mut u8,
+            mem_len: usize,
+            verifier: *const u8,
+            verifier_len: usize,
+            request: *const u8,
+            request_len: usize,
+            reply: *mut u8,
+            reply_len: usize,
+            counts: *mut u64,
+        ) -> u32;
+    }
+}
+
+// In all four calls: the pointers and lengths are those of live slices that nobody else uses
+// meanwhile, and the pointer of an empty slice isn't null.
+
+/// Zeroes every table and the block memory: 0, or 1 or 2.
+pub fn make_empty(
+    geometry: &Geometry,
+    sizes: &mut [u64],
+    words: &mut [u32],
+    mem: &mut [u8],
+) -> u32 {
+    // SAFETY: see above.
+    unsafe {
+        archive::store_make_empty(
+            geometry.files,
+            geometry.slots,
+            geometry.blocks,
+            geometry.block_size,
+            sizes.as_mut_ptr(),
+            sizes.len(),
+            words.as_mut_ptr(),
+            words.len(),
+            mem.as_mut_ptr(),
+            mem.len(),
+        )
+    }
+}
+
+/// 0 for a sound store, else 1, 2 or 3.
+pub fn soundness(geometry: &Geometry, sizes: &[u64], words: &[u32], mem: &[u8]) -> u32 {
+    // SAFETY: see above.
+    unsafe {
+        archive::store_soundness(
+            geometry.files,
+            geometry.slots,
+            geometry.blocks,
+            geometry.block_size,
+            sizes.as_ptr(),
+            sizes.len(),
+            words.as_ptr(),
+            words.len(),
+            mem.as_ptr(),
+            mem.len(),
+        )
+    }
+}
+
+/// Used and owed blocks: 0 and the counts, else 1, 2 or 3 and zeros.
+pub fn count_blocks(geometry: &Geometry, sizes: &[u64], words: &[u32], mem: &[u8]) -> Answer {
+    let mut counts = UNSET;
+    // SAFETY: see above; `counts` has the two numbers that are set.
+    let number = unsafe {
+        archive::store_count_blocks(
+            geometry.files,
+            geometry.slots,
+            geometry.blocks,
+            geometry.block_size,
+            sizes.as_ptr(),
+            sizes.len(),
+            words.as_ptr(),
+            words.len(),
+            mem.as_ptr(),
+            mem.len(),
+            counts.as_mut_ptr(),
+        )
+    };
+    Answer { number, counts }
+}
+
+/// Runs one compound: 0, bytes read and bytes written, else 1 to 6 and zeros.
+pub fn serve(
+    geometry: &Geometry,
+    sizes: &mut [u64],
+    words: &mut [u32],
+    mem: &mut [u8],
+    verifier: &[u8],
+    request: &[u8],
+    reply: &mut [u8],
+) -> Answer {
+    let mut counts = UNSET;
+    // SAFETY: see above; `counts` has the two numbers that are set.
+    let number = unsafe {
+        archive::compound_serve(
+            geometry.files,
+            geometry.slots,
+            geometry.blocks,
+            geometry.block_size,
+            sizes.as_mut_ptr(),
+            sizes.len(),
+            words.as_mut_ptr(),
+            words.len(),
+            mem.as_mut_ptr(),
+            mem.len(),
+            verifier.as_ptr(),
+            verifier.len(),
+            request.as_ptr(),
+            request.len(),
+            reply.as_mut_ptr(),
+            reply.len(),
+            counts.as_mut_ptr(),
+        )
+    };
+    Answer { number, counts }
+}

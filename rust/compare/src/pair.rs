@@ -1,6 +1,6 @@
 //! Two servers side by side, each with its own store and reply buffer.
 
-use std::fmt::{self, Debug};
+use std::fmt::{self, Display};
 
 use second::{Geometry, Store, REPLY_MIN};
 
@@ -245,18 +245,22 @@ fn unlike_tables(left: &Store, right: &Store) -> Option<String> {
         .or_else(|| unlike_slices("memory", &left.mem, &right.mem))
 }
 
-fn unlike<T: PartialEq + Debug>(what: &str, left: &T, right: &T) -> Option<String> {
-    (left != right).then(|| format!("{what}: {left:?} and {right:?}"))
+fn unlike<T: PartialEq>(what: &str, left: &T, right: &T) -> Option<String> {
+    (left != right).then(|| format!("answers of {what}"))
 }
 
-fn unlike_slices<T: PartialEq + Debug>(what: &str, left: &[T], right: &[T]) -> Option<String> {
+fn unlike_slices<T: PartialEq + Display>(what: &str, left: &[T], right: &[T]) -> Option<String> {
     if left == right {
         return None;
     }
-    let place = left.iter().zip(right).position(|(a, b)| a != b);
-    let place = place.unwrap_or(left.len().min(right.len()));
-    let (left, right) = (left.get(place), right.get(place));
-    Some(format!("{what} at {place}: {left:?} and {right:?}"))
+    let places = 0..left.len().max(right.len());
+    let place = places.into_iter().find(|&at| left.get(at) != right.get(at));
+    let place = place.unwrap_or_default();
+    let [left, right] = [left, right].map(|slice| match slice.get(place) {
+        Some(value) => value.to_string(),
+        None => "nothing".into(),
+    });
+    Some(format!("{what} at {place}: {left} and {right}"))
 }
 
 /// Runs a list from an empty store on; the first difference.

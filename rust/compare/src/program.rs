@@ -1,5 +1,6 @@
 //! The program: seeds from the command line, a difference or a tally on standard output.
 
+use std::ops::Range;
 use std::process::ExitCode;
 use std::thread;
 
@@ -10,6 +11,9 @@ use crate::tally::Tally;
 /// Takes about a minute.
 const SEEDS: u64 = 20_000;
 const FIRST_SEED: u64 = 1;
+
+/// One seed in so many is named on standard error, for a server that stops in the middle.
+const PROGRESS: u64 = 2000;
 
 /// More than the calls need.
 const STACK: usize = 8 << 20;
@@ -26,13 +30,7 @@ pub fn main(servers: [Named; 2]) -> ExitCode {
     };
     let seeds = arguments.first().copied().unwrap_or(SEEDS);
     let first = arguments.get(1).copied().unwrap_or(FIRST_SEED);
-    let compared = thread::scope(|scope| {
-        let builder = thread::Builder::new().stack_size(STACK);
-        let compare = || compare(servers, first..first + seeds);
-        let thread = builder.spawn_scoped(scope, compare);
-        thread.expect("a thread").join().expect("no panic")
-    });
-    match compared {
+    match with_stack(|| compare(servers, first..first + seeds)) {
         Ok(tally) => report(&tally),
         Err(found) => {
             report_difference(servers, &found);
@@ -41,9 +39,21 @@ pub fn main(servers: [Named; 2]) -> ExitCode {
     }
 }
 
-fn compare(servers: [Named; 2], seeds: std::ops::Range<u64>) -> Result<Tally, Box<Found>> {
+/// Runs on a thread with a stack that is large enough for the calls.
+pub fn with_stack<T: Send>(work: impl FnOnce() -> T + Send) -> T {
+    thread::scope(|scope| {
+        let builder = thread::Builder::new().stack_size(STACK);
+        let thread = builder.spawn_scoped(scope, work).expect("a thread");
+        thread.join().expect("work without a panic")
+    })
+}
+
+fn compare(servers: [Named; 2], seeds: Range<u64>) -> Result<Tally, Box<Found>> {
     let mut tally = Tally::default();
     for seed in seeds {
+        if seed.is_multiple_of(PROGRESS) {
+            eprintln!("seed {seed}");
+        }
         try_seed(
             seed,
             servers.map(|named| named.1 as &dyn Server),

@@ -1,6 +1,7 @@
 //! Makes a list short by leaving out what isn't needed.
 
 use crate::list::{Call, Lent, List, Step};
+use crate::wire;
 
 /// Leaves out steps and parts of steps, one after the other, as long as the list fails.
 pub fn shrink(mut list: List, fails: impl Fn(&List) -> bool) -> List {
@@ -57,7 +58,7 @@ fn with_less(list: &List, index: usize) -> Vec<List> {
     less(call).into_iter().map(with).collect()
 }
 
-/// The call with one operation or one peculiarity less, in every way.
+/// The call with one operation or one peculiarity less, or with plain data, in every way.
 fn less(call: &Call) -> Vec<Call> {
     let mut calls = Vec::new();
     let mut add = |is_less: bool, change: &dyn Fn(&mut Call)| {
@@ -73,6 +74,11 @@ fn less(call: &Call) -> Vec<Call> {
             call.request.operations.remove(index);
         });
     }
+    for (index, operation) in request.operations.iter().enumerate() {
+        if let Some(plain) = plain(operation) {
+            add(true, &|call| call.request.operations[index] = plain.clone());
+        }
+    }
     for index in 0..request.edits.len() {
         add(true, &|call| {
             call.request.edits.remove(index);
@@ -82,4 +88,18 @@ fn less(call: &Call) -> Vec<Call> {
     add(request.count.is_some(), &|call| call.request.count = None);
     add(!call.lent.is_usual(), &|call| call.lent = Lent::default());
     calls
+}
+
+/// WRITE with the same byte all through its data, if it isn't so already.
+fn plain(operation: &[u8]) -> Option<Vec<u8>> {
+    const LENGTH: usize = 32;
+    const BYTE: u8 = 0xdd;
+    if !operation.starts_with(&wire::WRITE.to_be_bytes()) {
+        return None;
+    }
+    let length = u32::from_be_bytes(*operation.get(LENGTH..)?.first_chunk()?);
+    let mut plain = operation.to_vec();
+    let data = plain[LENGTH + 4..].get_mut(..length as usize)?;
+    data.fill(BYTE);
+    (plain != operation).then_some(plain)
 }

@@ -198,7 +198,7 @@ fn a_freed_block_that_is_cleared() {
         }
     }));
     assert!(found.difference.what.starts_with("memory at"));
-    assert!(operations(&found.list) <= 6, "{}", found.list);
+    assert!(operations(&found.list) <= 8, "{}", found.list);
 }
 
 #[test]
@@ -208,7 +208,7 @@ fn bytes_read_of_an_operation_that_does_not_decode() {
             scene.answer.counts[0] += 4;
         }
     }));
-    assert!(found.difference.what.starts_with("serve"));
+    assert!(found.difference.what.ends_with("of serve"));
     assert_eq!(operations(&found.list), 1, "{}", found.list);
 }
 
@@ -228,7 +228,7 @@ fn a_refused_call_that_writes() {
 #[test]
 fn a_byte_past_a_size_that_goes_unseen() {
     let found = found(&Judging(|store: &mut Store| store.mem.fill(0)));
-    assert!(found.difference.what.starts_with("soundness"));
+    assert!(found.difference.what.ends_with("of soundness"));
     let damages = |step: &&Step| matches!(step, Step::Damage(_));
     assert_eq!(found.list.steps.iter().filter(damages).count(), 1);
     assert!(found.list.to_string().contains("WRITE"));
@@ -242,6 +242,6 @@ fn a_reserve_that_is_counted_for_holes_alone() {
         }
     }));
     // The clone of a reserved slot owes a block.
-    assert!(found.difference.what.starts_with("count_blocks"));
+    assert!(found.difference.what.ends_with("of count_blocks"));
     assert!(found.list.to_string().contains("CLONE"));
 }

@@ -4,6 +4,11 @@ use super::Maker;
 use crate::wire::{Stateid, ONES, ZEROS};
 
 impl Maker<'_> {
+    /// True once in that many times, or every other time in a clumsy call.
+    pub fn rarely(&mut self, times: u64) -> bool {
+        self.dice.once_in(if self.clumsy { 2 } else { times })
+    }
+
     pub fn block_size(&self) -> u64 {
         self.geometry.block_size
     }
@@ -70,14 +75,14 @@ impl Maker<'_> {
     pub fn offset(&mut self, file: usize) -> u64 {
         let (size, capacity, b) = (self.size(file), self.capacity(), self.block_size());
         match self.dice.below(30) {
+            _ if self.rarely(30) => self.huge(),
             0..=9 => self.edge(),
             10..=12 => size,
             13 => size + 1,
             14 => size.saturating_sub(1),
             15..=16 => size.next_multiple_of(b),
             17 => capacity - 1 + self.dice.below(3),
-            18..=28 => self.slot() * b + self.dice.below(b),
-            _ => self.huge(),
+            _ => self.slot() * b + self.dice.below(b),
         }
     }
 
@@ -146,19 +151,19 @@ impl Maker<'_> {
 
     /// A stateid, mostly one that may read.
     pub fn reading(&mut self) -> Stateid {
-        match self.dice.below(60) {
-            0 => self.near_stateid(),
-            1..=12 => ONES,
+        match self.dice.below(5) {
+            _ if self.rarely(60) => self.near_stateid(),
+            0 => ONES,
             _ => ZEROS,
         }
     }
 
     /// A stateid, mostly the one that may write.
     pub fn writing(&mut self) -> Stateid {
-        match self.dice.below(120) {
+        match self.dice.below(2) {
+            _ if !self.rarely(60) => ZEROS,
             0 => self.near_stateid(),
-            1 => ONES,
-            _ => ZEROS,
+            _ => ONES,
         }
     }
 

@@ -74,6 +74,7 @@ impl Generator {
 
     fn maker<'a>(&'a mut self, store: &'a Store) -> Maker<'a> {
         Maker {
+            clumsy: self.dice.once_in(10),
             dice: &mut self.dice,
             geometry: self.geometry,
             store,
@@ -90,7 +91,7 @@ fn largest(block_size: u64) -> Geometry {
     }
 }
 
-/// Few files, slots and blocks, now and then many of one of them.
+/// Few files, slots and blocks, now and then many of some.
 fn small(dice: &mut Dice) -> Geometry {
     let mut geometry = Geometry {
         files: dice.within(1..=4),
@@ -98,14 +99,15 @@ fn small(dice: &mut Dice) -> Geometry {
         blocks: 1,
         block_size: dice.pick(&[512, 1024, 2048, 4096]),
     };
-    match dice.below(60) {
+    let rare = dice.below(100);
+    match rare {
         0 => geometry.files = 64,
-        1 => geometry.slots = 1024,
+        1..=2 => geometry.slots = 1024,
         _ => {}
     }
     let slots = geometry.files * geometry.slots;
-    geometry.blocks = match dice.below(60) {
-        0 => 1024,
+    geometry.blocks = match rare {
+        2..=3 => dice.within(900..=1100),
         _ => dice.within(1..=slots.min(14) + 2),
     };
     geometry
@@ -116,6 +118,8 @@ struct Maker<'a> {
     dice: &'a mut Dice,
     geometry: Geometry,
     store: &'a Store,
+    /// Whether many things are wrong at once, so that it shows which error comes first.
+    clumsy: bool,
 }
 
 impl Maker<'_> {
@@ -148,7 +152,7 @@ impl Maker<'_> {
             let index = self.dice.below(operations.len() as u64 + 1) as usize;
             operations.insert(index, self.odd());
         }
-        if self.dice.once_in(24) {
+        if self.rarely(24) {
             let index = self.dice.below(operations.len() as u64) as usize;
             operations.remove(index);
         }

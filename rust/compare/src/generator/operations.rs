@@ -21,17 +21,15 @@ impl Maker<'_> {
         match self.dice.below(4) {
             0 => wire::putfh(&stale.to_be_bytes()),
             1 | 2 => wire::putfh(&vec![0; length]),
-            _ => self.claiming(wire::putfh(&[0; 4]), 4),
+            _ => with_number(wire::putfh(&[0; 4]), 4, self.odd_length()),
         }
     }
 
-    /// The operation with another number where a length or an enum stands.
-    fn claiming(&mut self, mut operation: Vec<u8>, at: usize) -> Vec<u8> {
+    /// A length that isn't that of what follows.
+    fn odd_length(&mut self) -> u32 {
         let small = self.dice.below(9) as u32;
         let large = u32::MAX - self.dice.below(5) as u32;
-        let value = self.dice.pick(&[small, large, 129, 1 << 31]);
-        operation[at..at + 4].copy_from_slice(&value.to_be_bytes());
-        operation
+        self.dice.pick(&[small, large, 129, 1 << 31])
     }
 
     /// READ, READ_PLUS or SEEK.
@@ -115,12 +113,9 @@ impl Maker<'_> {
     pub fn copy(&mut self, source: usize, target: usize) -> Vec<u8> {
         let (from, count) = self.part(source);
         let to = self.offset(target);
-        let flags = match self.dice.below(40) {
-            0 => self.dice.pick(&[[2, 1, 0], [0, u32::MAX, 0], [256, 0, 0]]),
-            1 => self
-                .dice
-                .pick(&[[1, 1, 1], [0, 0, u32::MAX], [1, 1, 1 << 24]]),
-            other => [(other % 2) as u32, (other / 2 % 2) as u32, 0],
+        let flags = match self.rarely(20) {
+            true => [0; 3].map(|_| self.dice.pick(&[0, 0, 1, 2, 1 << 24, u32::MAX])),
+            false => [self.dice.below(2) as u32, self.dice.below(2) as u32, 0],
         };
         self.transfer([from, to], count).copy_op(flags)
     }
@@ -169,6 +164,12 @@ impl Maker<'_> {
         if source == target && to.abs_diff(from) < count {
             to = from + count.next_multiple_of(b);
         }
+        let mut numbers = [from, to, count];
+        if self.dice.once_in(10) {
+            let number = &mut numbers[self.dice.below(3) as usize];
+            *number = self.dice.pick(&[number.saturating_sub(1), *number + 1]);
+        }
+        let [from, to, count] = numbers;
         self.transfer([from, to], count).clone_op()
     }
 
@@ -201,8 +202,8 @@ impl Maker<'_> {
         let length = self.dice.within(1..=7);
         let mut write = self.write_at(offset, length);
         match self.dice.below(3) {
-            0 => self.claiming(write, STABLE),
-            1 => self.claiming(write, LENGTH),
+            0 => with_number(write, STABLE, self.dice.pick(&[3, 4, 1 << 24, u32::MAX])),
+            1 => with_number(write, LENGTH, self.odd_length()),
             _ => {
                 let end = write.len();
                 write[end - 1] = 1;
@@ -223,4 +224,10 @@ impl Maker<'_> {
         operation.truncate(operation.len() - cut as usize);
         operation
     }
+}
+
+/// The operation with another number at that place.
+fn with_number(mut operation: Vec<u8>, at: usize, number: u32) -> Vec<u8> {
+    operation[at..at + 4].copy_from_slice(&number.to_be_bytes());
+    operation
 }

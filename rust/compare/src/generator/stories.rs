@@ -10,7 +10,8 @@ impl Maker<'_> {
         match self.dice.below(20) {
             0..=4 => self.edits(),
             5..=8 => self.transfers(),
-            9..=10 => self.fill_pool(),
+            9 => self.fill_pool(),
+            10 => self.give_back(),
             11 => self.share_in_file(),
             12..=13 => self.reserve(),
             14..=15 => self.share_edges(),
@@ -81,6 +82,22 @@ impl Maker<'_> {
         let words = &self.store.words[file * slots..(file + 1) * slots];
         let hole = words.iter().position(|word| word / 2 == 0);
         hole.unwrap_or_default() as u64
+    }
+
+    /// Frees most or all of a file, or of two.
+    fn give_back(&mut self) -> Vec<Vec<u8>> {
+        let (file, other) = (self.source(), self.source());
+        let slots = self.dice.pick(&[0, 0, 1]);
+        let offset = slots * self.block_size();
+        let whole = wire::region(wire::DEALLOCATE, wire::ZEROS, offset, self.capacity());
+        vec![
+            self.putfh(file),
+            whole.clone(),
+            self.putfh(other),
+            whole,
+            self.edit(other),
+            self.look(other),
+        ]
     }
 
     /// A slot cloned inside its file, then one WRITE over both.

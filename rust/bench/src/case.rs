@@ -1,0 +1,195 @@
+//! What is timed.
+
+use compare::wire::{self, Transfer, ZEROS};
+use compare::{Dice, Second, Server};
+use second::{Geometry, Store, REPLY_MIN};
+
+pub const SMALLEST: Geometry = geometry(1, 1, 1, 512);
+/// The smallest for a CLONE of 64 slots.
+pub const SMALL: Geometry = geometry(4, 128, 256, 512);
+pub const LARGE: Geometry = geometry(64, 1024, 65_536, 512);
+pub const LARGEST: Geometry = geometry(64, 1024, 65_536, 4096);
+
+/// The slots of a CLONE.
+const CLONED: u64 = 64;
+/// The bytes of a WRITE.
+const WRITTEN: u64 = 100;
+
+pub const VERIFIER: [u8; 8] = [7; 8];
+
+pub const fn geometry(files: u64, slots: u64, blocks: u64, block_size: u64) -> Geometry {
+    Geometry {
+        files,
+        slots,
+        blocks,
+        block_size,
+    }
+}
+
+#[derive(Clone, Copy)]
+pub enum Kind {
+    Write,
+    ReadPlus,
+    Allocate,
+    Clone,
+    Soundness,
+    CountBlocks,
+}
+
+impl Kind {
+    pub const ALL: [Kind; 6] = [
+        Kind::Write,
+        Kind::ReadPlus,
+        Kind::Allocate,
+        Kind::Clone,
+        Kind::Soundness,
+        Kind::CountBlocks,
+    ];
+
+    pub fn name(self) -> &'static str {
+        match self {
+            Kind::Write => "WRITE of 100 bytes",
+            Kind::ReadPlus => "READ_PLUS, sparse",
+            Kind::Allocate => "ALLOCATE",
+            Kind::Clone => "CLONE of 64 written slots",
+            Kind::Soundness => "soundness",
+            Kind::CountBlocks => "count_blocks",
+        }
+    }
+}
+
+/// A store, and what is asked of it.
+pub struct Case {
+    pub geometry: Geometry,
+    pub store: Store,
+    pub calls: usize,
+    pub work: Work,
+}
+
+pub enum Work {
+    /// Compounds, served one after the other.
+    Serve(Vec<Vec<u8>>),
+    Soundness,
+    CountBlocks,
+}
+
+impl Case {
+    pub fn new(kind: Kind, geometry: Geometry, calls: usize) -> Case {
+        let work = match kind {
+            Kind::Write => writes(&geometry, calls),
+            Kind::ReadPlus => reads(&geometry, calls),
+            Kind::Allocate => allocates(&geometry, calls),
+            Kind::Clone => clones(&geometry, calls),
+            Kind::Soundness => Work::Soundness,
+            Kind::CountBlocks => Work::CountBlocks,
+        };
+        let store = match kind {
+            Kind::Clone => written(&geometry, CLONED),
+            _ => sparse(&geometry),
+        };
+        let case = Case {
+            geometry,
+            store,
+            calls,
+            work,
+        };
+        case.check();
+        case
+    }
+
+    /// Every compound must end in OK.
+    fn check(&self) {
+        let Work::Serve(requests) = &self.work else {
+            return;
+        };
+        let mut store = self.store.clone();
+        let mut reply = vec![0; REPLY_MIN];
+        for request in requests {
+            let answer = Second.serve(&self.geometry, &mut store, &VERIFIER, request, &mut reply);
+            assert_eq!((answer.number, &reply[..4]), (0, &[0; 4][..]));
+        }
+    }
+}
+
+/// Files of full size. Every second slot holds a block, until half of the pool is used.
+fn sparse(geometry: &Geometry) -> Store {
+    let mut store = Store::empty(geometry);
+    store.sizes.fill(geometry.slots * geometry.block_size);
+    store.mem.fill(1);
+    let half = 1..=geometry.blocks.div_ceil(2) as u32;
+    for (word, block) in store.words.iter_mut().step_by(2).zip(half) {
+        *word = 2 * block;
+    }
+    store
+}
+
+/// The first file has that many written slots, the others are empty.
+fn written(geometry: &Geometry, slots: u64) -> Store {
+    let mut store = Store::empty(geometry);
+    store.sizes[0] = slots * geometry.block_size;
+    store.mem.fill(1);
+    for (word, block) in store.words.iter_mut().zip(1..=slots as u32) {
+        *word = 2 * block;
+    }
+    store
+}
+
+/// A compound of PUTFH and one operation for each call.
+fn compounds(
+    geometry: &Geometry,
+    calls: usize,
+    mut operation: impl FnMut(&mut Dice) -> Vec<u8>,
+) -> Work {
+    let mut dice = Dice::new(geometry.files + geometry.slots);
+    let requests = (0..calls).map(|_| {
+        let file = dice.below(geometry.files) as usize;
+        wire::request(&[wire::putfh_file(file), operation(&mut dice)])
+    });
+    Work::Serve(requests.collect())
+}
+
+fn writes(geometry: &Geometry, calls: usize) -> Work {
+    let places = geometry.slots * geometry.block_size - WRITTEN;
+    compounds(geometry, calls, |dice| {
+        let data = dice.bytes(WRITTEN as usize);
+        wire::write(ZEROS, dice.below(places), 2, &data)
+    })
+}
+
+fn reads(geometry: &Geometry, calls: usize) -> Work {
+    let places = geometry.slots * geometry.block_size;
+    compounds(geometry, calls, |dice| {
+        wire::look(wire::READ_PLUS, ZEROS, dice.below(places), 2048)
+    })
+}
+
+/// Four slots, or all of them.
+fn allocates(geometry: &Geometry, calls: usize) -> Work {
+    let slots = geometry.slots.min(4);
+    compounds(geometry, calls, |dice| {
+        let first = dice.below(geometry.slots - slots + 1);
+        let [offset, length] = [first, slots].map(|count| count * geometry.block_size);
+        wire::region(wire::ALLOCATE, ZEROS, offset, length)
+    })
+}
+
+/// CLONE from the first file to any place of the others.
+fn clones(geometry: &Geometry, calls: usize) -> Work {
+    let mut dice = Dice::new(1);
+    let requests = (0..calls).map(|_| {
+        let target = dice.within(1..=geometry.files - 1) as usize;
+        let first = dice.below(geometry.slots - CLONED + 1);
+        let clone = Transfer {
+            stateids: [ZEROS; 2],
+            offsets: [0, first * geometry.block_size],
+            count: CLONED * geometry.block_size,
+        };
+        wire::request(&[
+            wire::putfh_file(0),
+            wire::int(wire::SAVEFH),
+            wire::putfh_file(target),
+            clone.clone_op(),
+        ])
+    });
+    Work::Serve(requests.collect())
+}

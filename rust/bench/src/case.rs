@@ -1,7 +1,7 @@
 //! What is timed.
 
 use compare::wire::{self, Transfer, ZEROS};
-use compare::{Dice, Second, Server};
+use compare::{Random, Second, Server};
 use second::{Geometry, Store, REPLY_MIN};
 
 pub const SMALLEST: Geometry = geometry(1, 1, 1, 512);
@@ -138,36 +138,36 @@ fn written(geometry: &Geometry, slots: u64) -> Store {
 fn compounds(
     geometry: &Geometry,
     calls: usize,
-    mut operation: impl FnMut(&mut Dice) -> Vec<u8>,
+    mut operation: impl FnMut(&mut Random) -> Vec<u8>,
 ) -> Work {
-    let mut dice = Dice::new(geometry.files + geometry.slots);
+    let mut random = Random::new(geometry.files + geometry.slots);
     let requests = (0..calls).map(|_| {
-        let file = dice.below(geometry.files) as usize;
-        wire::request(&[wire::putfh_file(file), operation(&mut dice)])
+        let file = random.below(geometry.files) as usize;
+        wire::request(&[wire::putfh_file(file), operation(&mut random)])
     });
     Work::Serve(requests.collect())
 }
 
 fn writes(geometry: &Geometry, calls: usize) -> Work {
     let places = geometry.slots * geometry.block_size - WRITTEN;
-    compounds(geometry, calls, |dice| {
-        let data = dice.bytes(WRITTEN as usize);
-        wire::write(ZEROS, dice.below(places), 2, &data)
+    compounds(geometry, calls, |random| {
+        let data = random.bytes(WRITTEN as usize);
+        wire::write(ZEROS, random.below(places), 2, &data)
     })
 }
 
 fn reads(geometry: &Geometry, calls: usize) -> Work {
     let places = geometry.slots * geometry.block_size;
-    compounds(geometry, calls, |dice| {
-        wire::look(wire::READ_PLUS, ZEROS, dice.below(places), 2048)
+    compounds(geometry, calls, |random| {
+        wire::look(wire::READ_PLUS, ZEROS, random.below(places), 2048)
     })
 }
 
 /// Four slots, or all of them.
 fn allocates(geometry: &Geometry, calls: usize) -> Work {
     let slots = geometry.slots.min(4);
-    compounds(geometry, calls, |dice| {
-        let first = dice.below(geometry.slots - slots + 1);
+    compounds(geometry, calls, |random| {
+        let first = random.below(geometry.slots - slots + 1);
         let [offset, length] = [first, slots].map(|count| count * geometry.block_size);
         wire::region(wire::ALLOCATE, ZEROS, offset, length)
     })
@@ -175,10 +175,10 @@ fn allocates(geometry: &Geometry, calls: usize) -> Work {
 
 /// CLONE from the first file to any place of the others.
 fn clones(geometry: &Geometry, calls: usize) -> Work {
-    let mut dice = Dice::new(1);
+    let mut random = Random::new(1);
     let requests = (0..calls).map(|_| {
-        let target = dice.within(1..=geometry.files - 1) as usize;
-        let first = dice.below(geometry.slots - CLONED + 1);
+        let target = random.within(1..=geometry.files - 1) as usize;
+        let first = random.below(geometry.slots - CLONED + 1);
         let clone = Transfer {
             stateids: [ZEROS; 2],
             offsets: [0, first * geometry.block_size],

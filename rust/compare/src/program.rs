@@ -4,7 +4,7 @@ use std::ops::Range;
 use std::process::ExitCode;
 use std::thread;
 
-use crate::pair::{try_seed, Found};
+use crate::seed::{try_seed, Found};
 use crate::server::Server;
 use crate::tally::Tally;
 

@@ -5,7 +5,7 @@ use std::fmt;
 
 use second::Geometry;
 
-use crate::pair::Seen;
+use crate::pair::Observed;
 use crate::wire::{self, Outcome};
 
 /// The statuses of operations.
@@ -76,13 +76,13 @@ pub struct Tally {
 }
 
 impl Tally {
-    pub(crate) fn add(&mut self, seen: &Seen, outcome: Option<Outcome>) {
-        self.add_answer("soundness", seen.soundness);
-        self.add_answer("count_blocks", seen.counted.number);
-        if let Some(apart) = &seen.apart {
-            self.add_answer("make_empty", apart.emptied);
+    pub(crate) fn add(&mut self, observed: &Observed, outcome: Option<Outcome>) {
+        self.add_answer("soundness", observed.soundness);
+        self.add_answer("count_blocks", observed.counted.number);
+        if let Some(on_copy) = &observed.on_copy {
+            self.add_answer("make_empty", on_copy.emptied);
         }
-        if let Some(served) = seen.served {
+        if let Some(served) = observed.served {
             self.calls += 1;
             self.add_answer("serve", served.number);
         }

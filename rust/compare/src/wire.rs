@@ -131,7 +131,7 @@ pub struct Outcome {
     pub results: Vec<(u32, u32)>,
 }
 
-/// Takes a whole reply apart; nothing where it isn't laid out as one.
+/// Takes a whole reply on_copy; nothing where it isn't laid out as one.
 pub fn outcome(reply: &[u8]) -> Option<Outcome> {
     let mut reply = Walk(reply);
     let status = reply.int()?;

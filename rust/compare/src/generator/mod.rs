@@ -2,14 +2,14 @@
 
 mod aims;
 mod operations;
-mod stories;
+mod scenarios;
 mod wrong;
 
 use second::{Geometry, Store, REPLY_MIN};
 
-use crate::dice::Dice;
 use crate::list::{Call, Damage, Edit, Lent, Request};
 use crate::pair::REPLY_MAX;
+use crate::random::Random;
 
 /// The geometry with 256 MiB of memory has one seed in so many, the one with 32 MiB another.
 const LARGEST_EVERY: u64 = 100_000;
@@ -19,30 +19,30 @@ const OPERATIONS_MAX: u64 = 12;
 
 pub struct Generator {
     pub geometry: Geometry,
-    dice: Dice,
+    random: Random,
 }
 
 impl Generator {
     pub fn new(seed: u64) -> Generator {
-        let mut dice = Dice::new(seed);
+        let mut random = Random::new(seed);
         let geometry = match seed {
             _ if seed.is_multiple_of(LARGEST_EVERY) => largest(4096),
             _ if seed.is_multiple_of(LARGE_EVERY) => largest(512),
-            _ => small(&mut dice),
+            _ => small(&mut random),
         };
-        Generator { geometry, dice }
+        Generator { geometry, random }
     }
 
     /// A generator of calls for one geometry.
     pub fn with_geometry(geometry: Geometry, seed: u64) -> Generator {
-        let dice = Dice::new(seed);
-        Generator { geometry, dice }
+        let random = Random::new(seed);
+        Generator { geometry, random }
     }
 
     /// How many calls the list has.
     pub fn calls(&mut self) -> u64 {
         match self.geometry.blocks * self.geometry.block_size {
-            0..=1_000_000 => self.dice.within(12..=40),
+            0..=1_000_000 => self.random.within(12..=40),
             _ => 12,
         }
     }
@@ -50,10 +50,10 @@ impl Generator {
     /// The next call, any arguments but the store wrong now and then.
     pub fn call(&mut self, store: &Store) -> Call {
         let mut maker = self.maker(store);
-        match maker.dice.below(100) {
+        match maker.random.below(100) {
             0..=71 => maker.usual(),
             72..=83 => maker.damaged(),
-            84..=91 => maker.odd_header(),
+            84..=91 => maker.unusual_header(),
             _ => maker.wrong_arguments(),
         }
     }
@@ -61,7 +61,7 @@ impl Generator {
     /// The bytes of a request, damaged now and then.
     pub fn request(&mut self, store: &Store) -> Vec<u8> {
         let mut maker = self.maker(store);
-        let call = match maker.dice.below(20) {
+        let call = match maker.random.below(20) {
             0 => maker.damaged(),
             _ => maker.usual(),
         };
@@ -74,8 +74,8 @@ impl Generator {
 
     fn maker<'a>(&'a mut self, store: &'a Store) -> Maker<'a> {
         Maker {
-            clumsy: self.dice.once_in(10),
-            dice: &mut self.dice,
+            error_prone: self.random.once_in(10),
+            random: &mut self.random,
             geometry: self.geometry,
             store,
         }
@@ -92,14 +92,14 @@ fn largest(block_size: u64) -> Geometry {
 }
 
 /// Few files, slots and blocks, now and then many of some.
-fn small(dice: &mut Dice) -> Geometry {
+fn small(random: &mut Random) -> Geometry {
     let mut geometry = Geometry {
-        files: dice.within(1..=4),
-        slots: dice.within(1..=8),
+        files: random.within(1..=4),
+        slots: random.within(1..=8),
         blocks: 1,
-        block_size: dice.pick(&[512, 1024, 2048, 4096]),
+        block_size: random.pick(&[512, 1024, 2048, 4096]),
     };
-    let rare = dice.below(100);
+    let rare = random.below(100);
     match rare {
         0 => geometry.files = 64,
         1..=2 => geometry.slots = 1024,
@@ -107,19 +107,19 @@ fn small(dice: &mut Dice) -> Geometry {
     }
     let slots = geometry.files * geometry.slots;
     geometry.blocks = match rare {
-        2..=3 => dice.within(900..=1100),
-        _ => dice.within(1..=slots.min(14) + 2),
+        2..=3 => random.within(900..=1100),
+        _ => random.within(1..=slots.min(14) + 2),
     };
     geometry
 }
 
 /// One call in the making.
 struct Maker<'a> {
-    dice: &'a mut Dice,
+    random: &'a mut Random,
     geometry: Geometry,
     store: &'a Store,
     /// Whether many things are wrong at once, so that it shows which error comes first.
-    clumsy: bool,
+    error_prone: bool,
 }
 
 impl Maker<'_> {
@@ -129,34 +129,34 @@ impl Maker<'_> {
         request.tag = self.tag();
         Call {
             request,
-            verifier: self.dice.bytes(8),
+            verifier: self.random.bytes(8),
             reply_length: self
-                .dice
+                .random
                 .pick(&[REPLY_MIN, REPLY_MIN, REPLY_MIN + 1, REPLY_MAX]),
             lent: Lent::default(),
         }
     }
 
     fn tag(&mut self) -> Vec<u8> {
-        let length = match self.dice.below(40) {
-            0 => self.dice.within(1021..=1024),
-            1..=9 => self.dice.below(14),
+        let length = match self.random.below(40) {
+            0 => self.random.within(1021..=1024),
+            1..=9 => self.random.below(14),
             _ => 0,
         };
-        self.dice.bytes(length as usize)
+        self.random.bytes(length as usize)
     }
 
     fn operations(&mut self) -> Vec<Vec<u8>> {
-        let mut operations = self.story();
-        if self.dice.once_in(14) {
-            let index = self.dice.below(operations.len() as u64 + 1) as usize;
-            operations.insert(index, self.odd());
+        let mut operations = self.scenario();
+        if self.random.once_in(14) {
+            let index = self.random.below(operations.len() as u64 + 1) as usize;
+            operations.insert(index, self.malformed());
         }
         if self.rarely(24) {
-            let index = self.dice.below(operations.len() as u64) as usize;
+            let index = self.random.below(operations.len() as u64) as usize;
             operations.remove(index);
         }
-        if !self.dice.once_in(40) {
+        if !self.random.once_in(40) {
             operations.truncate(OPERATIONS_MAX as usize);
         }
         operations
@@ -166,9 +166,9 @@ impl Maker<'_> {
     fn damaged(&mut self) -> Call {
         let mut call = self.usual();
         let length = call.request.bytes().len() as u64;
-        for _ in 0..self.dice.within(1..=3) {
-            let at = self.dice.below(length) as usize;
-            let edit = match self.dice.below(4) {
+        for _ in 0..self.random.within(1..=3) {
+            let at = self.random.below(length) as usize;
+            let edit = match self.random.below(4) {
                 0 => Edit::Cut { length: at },
                 _ => Edit::Set {
                     at,
@@ -181,26 +181,26 @@ impl Maker<'_> {
     }
 
     fn byte(&mut self) -> u8 {
-        let any = self.dice.any() as u8;
-        self.dice.pick(&[0, 1, 2, 4, 255, any, any])
+        let any = self.random.any() as u8;
+        self.random.pick(&[0, 1, 2, 4, 255, any, any])
     }
 
     /// A compound whose tag, minor version or operation count is peculiar.
-    fn odd_header(&mut self) -> Call {
+    fn unusual_header(&mut self) -> Call {
         let mut call = self.usual();
         let request = &mut call.request;
         let operations = request.operations.len() as u32;
-        match self.dice.below(8) {
-            0 => request.minor_version = self.dice.pick(&[0, 1, 3, 4, u32::MAX]),
-            1 => request.count = Some(self.dice.pick(&[12, 13, 14, 1 << 16, u32::MAX])),
+        match self.random.below(8) {
+            0 => request.minor_version = self.random.pick(&[0, 1, 3, 4, u32::MAX]),
+            1 => request.count = Some(self.random.pick(&[12, 13, 14, 1 << 16, u32::MAX])),
             2 => request.count = Some(operations + 1),
             3 => request.count = Some(operations.saturating_sub(1)),
             4 => request.count = Some(0),
-            5 => request.tag = self.dice.bytes(1024),
-            6 => request.tag = self.dice.bytes(1025),
+            5 => request.tag = self.random.bytes(1024),
+            6 => request.tag = self.random.bytes(1025),
             _ => request.edits.push(self.tag_damage(&mut request.tag)),
         }
-        if self.dice.once_in(6) {
+        if self.random.once_in(6) {
             call.request.minor_version = 1;
         }
         call
@@ -208,13 +208,13 @@ impl Maker<'_> {
 
     /// A tag with a length out of all proportion, or with a pad that isn't zero.
     fn tag_damage(&mut self, tag: &mut Vec<u8>) -> Edit {
-        if self.dice.once_in(2) {
-            let at = self.dice.below(3) as usize;
+        if self.random.once_in(2) {
+            let at = self.random.below(3) as usize;
             return Edit::Set { at, byte: 255 };
         }
-        let pad = self.dice.within(1..=3) as usize;
-        *tag = self.dice.bytes(8 - pad);
-        let at = 12 - 1 - self.dice.below(pad as u64) as usize;
+        let pad = self.random.within(1..=3) as usize;
+        *tag = self.random.bytes(8 - pad);
+        let at = 12 - 1 - self.random.below(pad as u64) as usize;
         Edit::Set { at, byte: 1 }
     }
 }

@@ -11,29 +11,29 @@ impl Maker<'_> {
         let mut call = self.usual();
         loop {
             self.add_wrong(&mut call);
-            if !self.dice.once_in(3) {
+            if !self.random.once_in(3) {
                 return call;
             }
         }
     }
 
     fn add_wrong(&mut self, call: &mut Call) {
-        match self.dice.below(8) {
+        match self.random.below(8) {
             0..=1 => call.lent.geometry = Some(self.other_geometry()),
             2..=3 => call.lent.lengths.push(self.other_length()),
             4 => {
-                let length = self.dice.pick(&[0, 1, 7, 9, 16]);
-                call.verifier = self.dice.bytes(length);
+                let length = self.random.pick(&[0, 1, 7, 9, 16]);
+                call.verifier = self.random.bytes(length);
             }
-            5 => call.reply_length = self.dice.pick(&[0, 1, REPLY_MIN / 2, REPLY_MIN - 1]),
+            5 => call.reply_length = self.random.pick(&[0, 1, REPLY_MIN / 2, REPLY_MIN - 1]),
             6 => {
                 let length = self
-                    .dice
+                    .random
                     .pick(&[REQUEST_MAX, REQUEST_MAX + 1, 2 * REQUEST_MAX]);
                 call.request.edits.push(Edit::Extend { length });
             }
             _ => call.request.edits.push(Edit::Cut {
-                length: self.dice.below(13) as usize,
+                length: self.random.below(13) as usize,
             }),
         }
     }
@@ -41,12 +41,12 @@ impl Maker<'_> {
     /// The geometry with one number changed, or with the same lengths by other numbers.
     fn other_geometry(&mut self) -> Geometry {
         let mut geometry = self.geometry;
-        if self.dice.once_in(6) {
+        if self.random.once_in(6) {
             geometry.blocks *= 2;
             geometry.block_size /= 2;
             return geometry;
         }
-        let (number, last) = match self.dice.below(4) {
+        let (number, last) = match self.random.below(4) {
             0 => (&mut geometry.files, 64),
             1 => (&mut geometry.slots, 1024),
             2 => (&mut geometry.blocks, 65_536),
@@ -54,7 +54,7 @@ impl Maker<'_> {
         };
         let old = *number;
         let wrapped = old + (1 << 32);
-        *number = self.dice.pick(&[
+        *number = self.random.pick(&[
             0,
             last,
             last + 1,
@@ -71,12 +71,12 @@ impl Maker<'_> {
 
     fn other_length(&mut self) -> (Table, usize) {
         let b = self.block_size() as usize;
-        let (table, length, step) = match self.dice.below(3) {
+        let (table, length, step) = match self.random.below(3) {
             0 => (Table::Sizes, self.store.sizes.len(), 1),
             1 => (Table::Words, self.store.words.len(), 1),
             _ => (Table::Mem, self.store.mem.len(), b),
         };
-        let other = self.dice.pick(&[
+        let other = self.random.pick(&[
             0,
             1,
             length - 1,
@@ -90,7 +90,7 @@ impl Maker<'_> {
 
     /// One place of the store, harmless or not.
     pub fn damage(&mut self) -> Damage {
-        match self.dice.below(4) {
+        match self.random.below(4) {
             0 => self.damaged_size(),
             1 => self.damaged_word(),
             2 => self.damaged_tail().unwrap_or_else(|| self.damaged_byte()),
@@ -102,8 +102,8 @@ impl Maker<'_> {
         let (b, capacity) = (self.block_size(), self.capacity());
         let file = self.file();
         let size = self.size(file);
-        let any = self.dice.below(capacity + 1);
-        let value = self.dice.pick(&[
+        let any = self.random.below(capacity + 1);
+        let value = self.random.pick(&[
             0,
             any,
             size.wrapping_sub(1),
@@ -121,10 +121,10 @@ impl Maker<'_> {
     fn damaged_word(&mut self) -> Damage {
         let words = &self.store.words;
         let index = self.file() * self.geometry.slots as usize + self.slot() as usize;
-        let other = words[self.dice.below(words.len() as u64) as usize];
+        let other = words[self.random.below(words.len() as u64) as usize];
         let blocks = self.geometry.blocks as u32;
-        let any = self.dice.below(2 * u64::from(blocks) + 2) as u32;
-        let value = self.dice.pick(&[
+        let any = self.random.below(2 * u64::from(blocks) + 2) as u32;
+        let value = self.random.pick(&[
             words[index] ^ 1,
             words[index] ^ 1,
             words[index] ^ 2,
@@ -152,17 +152,17 @@ impl Maker<'_> {
             .collect();
         let (tail, block) = match tails[..] {
             [] => return None,
-            _ => self.dice.pick(&tails),
+            _ => self.random.pick(&tails),
         };
-        let any = self.dice.within(tail..=b - 1);
-        let place = self.dice.pick(&[tail, b - 1, any]);
+        let any = self.random.within(tail..=b - 1);
+        let place = self.random.pick(&[tail, b - 1, any]);
         let index = ((block - 1) * b + place) as usize;
-        let value = self.dice.pick(&[1, 128, 255]);
+        let value = self.random.pick(&[1, 128, 255]);
         Some(Damage::Byte { index, value })
     }
 
     fn damaged_byte(&mut self) -> Damage {
-        let index = self.dice.below(self.store.mem.len() as u64) as usize;
+        let index = self.random.below(self.store.mem.len() as u64) as usize;
         let value = self.byte();
         Damage::Byte { index, value }
     }

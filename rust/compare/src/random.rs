@@ -3,11 +3,11 @@
 use std::ops::RangeInclusive;
 
 /// SplitMix64.
-pub struct Dice(u64);
+pub struct Random(u64);
 
-impl Dice {
-    pub fn new(seed: u64) -> Dice {
-        Dice(seed)
+impl Random {
+    pub fn new(seed: u64) -> Random {
+        Random(seed)
     }
 
     pub fn any(&mut self) -> u64 {

@@ -6,8 +6,8 @@ use super::{Maker, OPERATIONS_MAX};
 use crate::wire;
 
 impl Maker<'_> {
-    pub fn story(&mut self) -> Vec<Vec<u8>> {
-        match self.dice.below(20) {
+    pub fn scenario(&mut self) -> Vec<Vec<u8>> {
+        match self.random.below(20) {
             0..=4 => self.edits(),
             5..=8 => self.transfers(),
             9 => self.fill_pool(),
@@ -24,7 +24,7 @@ impl Maker<'_> {
     fn edits(&mut self) -> Vec<Vec<u8>> {
         let file = self.file();
         let mut operations = vec![self.putfh(file)];
-        for _ in 0..self.dice.within(1..=3) {
+        for _ in 0..self.random.within(1..=3) {
             operations.push(self.edit(file));
         }
         operations.push(self.look(file));
@@ -34,7 +34,7 @@ impl Maker<'_> {
     fn looks(&mut self) -> Vec<Vec<u8>> {
         let file = self.file();
         let mut operations = vec![self.putfh(file)];
-        for _ in 0..self.dice.within(1..=6) {
+        for _ in 0..self.random.within(1..=6) {
             operations.push(self.look(file));
         }
         operations
@@ -48,8 +48,8 @@ impl Maker<'_> {
             wire::int(wire::SAVEFH),
             self.putfh(target),
         ];
-        for _ in 0..self.dice.within(1..=2) {
-            operations.push(match self.dice.below(8) {
+        for _ in 0..self.random.within(1..=2) {
+            operations.push(match self.random.below(8) {
                 0 => self.copy(source, target),
                 1..=3 if source != target => self.copy(source, target),
                 _ => self.clone(source, target),
@@ -64,20 +64,20 @@ impl Maker<'_> {
     fn fill_pool(&mut self) -> Vec<Vec<u8>> {
         let counted = count_blocks(&self.geometry, self.store);
         let left = self.geometry.blocks - counted.used - counted.owed;
-        let wanted = (left + self.dice.below(3)).saturating_sub(1).max(1);
+        let wanted = (left + self.random.below(3)).saturating_sub(1).max(1);
         let b = self.block_size();
         let file = self.file();
-        let start = self.hole(file) * b + self.dice.pick(&[0, 0, 1, b - 1]);
-        let length = (wanted * b).saturating_sub(self.dice.pick(&[0, 0, 1, b - 1]));
-        let operation = match self.dice.below(2) {
+        let start = self.hole(file) * b + self.random.pick(&[0, 0, 1, b - 1]);
+        let length = (wanted * b).saturating_sub(self.random.pick(&[0, 0, 1, b - 1]));
+        let operation = match self.random.below(2) {
             0 => self.allocate_at(start, length),
             _ => self.write_at(start, length),
         };
         vec![self.putfh(file), operation, self.edit(file)]
     }
 
-    /// A slot that is a hole, if the first ones looked at have one.
-    fn hole(&mut self, file: usize) -> u64 {
+    /// The first slot that is a hole, or the first of all.
+    fn hole(&self, file: usize) -> u64 {
         let slots = self.geometry.slots as usize;
         let words = &self.store.words[file * slots..(file + 1) * slots];
         let hole = words.iter().position(|word| word / 2 == 0);
@@ -87,7 +87,7 @@ impl Maker<'_> {
     /// Frees most or all of a file, or of two.
     fn give_back(&mut self) -> Vec<Vec<u8>> {
         let (file, other) = (self.source(), self.source());
-        let slots = self.dice.pick(&[0, 0, 1]);
+        let slots = self.random.pick(&[0, 0, 1]);
         let offset = slots * self.block_size();
         let whole = wire::region(wire::DEALLOCATE, wire::ZEROS, offset, self.capacity());
         vec![
@@ -106,8 +106,8 @@ impl Maker<'_> {
         let file = self.file();
         let (first, second) = (self.slot(), self.slot());
         let (low, high) = (first.min(second), first.max(second));
-        let part = self.dice.pick(&[0, 1, b / 2]);
-        let over = (high - low + 1) * b - part - self.dice.below(2);
+        let part = self.random.pick(&[0, 1, b / 2]);
+        let over = (high - low + 1) * b - part - self.random.below(2);
         let clone = self.transfer([first * b, second * b], b);
         vec![
             self.putfh(file),
@@ -124,10 +124,10 @@ impl Maker<'_> {
         let b = self.block_size();
         let file = self.file();
         let other = self.other(file);
-        let slots = self.dice.within(1..=3);
+        let slots = self.random.within(1..=3);
         let (first, second) = (self.slot() * b, self.slot() * b);
         let clone = self.transfer([first, second], slots * b);
-        let [inside, within] = [first, second].map(|start| start + self.dice.below(b));
+        let [inside, within] = [first, second].map(|start| start + self.random.below(b));
         vec![
             self.putfh(file),
             self.allocate_at(first, slots * b),
@@ -162,8 +162,8 @@ impl Maker<'_> {
         let file = self.file();
         let mut operations = vec![wire::putfh_file(file)];
         while operations.len() < OPERATIONS_MAX as usize {
-            let number = self.dice.pick(&[wire::READ, wire::READ_PLUS]);
-            let offset = self.slot() * self.block_size() + self.dice.below(4);
+            let number = self.random.pick(&[wire::READ, wire::READ_PLUS]);
+            let offset = self.slot() * self.block_size() + self.random.below(4);
             operations.push(wire::look(number, wire::ZEROS, offset, 2048));
         }
         operations
@@ -173,8 +173,8 @@ impl Maker<'_> {
     fn mixture(&mut self) -> Vec<Vec<u8>> {
         let (mut current, mut saved) = (self.file(), self.file());
         let mut operations = vec![self.putfh(current)];
-        for _ in 0..self.dice.within(1..=OPERATIONS_MAX) {
-            operations.push(match self.dice.below(12) {
+        for _ in 0..self.random.within(1..=OPERATIONS_MAX) {
+            operations.push(match self.random.below(12) {
                 0 => wire::int(wire::GETFH),
                 1..=2 => {
                     saved = current;

@@ -1,0 +1,97 @@
+//! The list of a seed: made, run, and made short where two servers differ.
+
+use crate::difference::Difference;
+use crate::generator::Generator;
+use crate::list::{List, Step};
+use crate::pair::Pair;
+use crate::server::Server;
+use crate::shrink::shrink;
+use crate::tally::Tally;
+
+/// So many calls show that a store that isn't sound is refused.
+const CALLS_IF_UNSOUND: usize = 4;
+
+/// A seed with a difference, and its list made short.
+pub struct Found {
+    pub seed: u64,
+    pub list: List,
+    pub difference: Difference,
+}
+
+/// Runs a list from an empty store on; the first difference.
+pub fn differs(list: &List, servers: [&dyn Server; 2]) -> Option<Difference> {
+    let mut pair = match Pair::new(list.geometry, servers) {
+        Ok(pair) => pair,
+        Err(difference) => return Some(difference),
+    };
+    list.steps.iter().find_map(|step| pair.step(step).err())
+}
+
+/// Makes and runs the list of a seed, then runs it again from the store that it leaves, damaged at
+/// one place.
+pub fn try_seed(seed: u64, servers: [&dyn Server; 2], tally: &mut Tally) -> Result<(), Box<Found>> {
+    let mut generator = Generator::new(seed);
+    let mut list = List {
+        geometry: generator.geometry,
+        steps: Vec::new(),
+    };
+    match run_seed(&mut generator, &mut list, servers, tally) {
+        Ok(()) => Ok(()),
+        Err(difference) => {
+            let (list, difference) = shortest(list, difference, servers);
+            Err(Box::new(Found {
+                seed,
+                list,
+                difference,
+            }))
+        }
+    }
+}
+
+/// Every step is in the list before it is run.
+fn run_seed(
+    generator: &mut Generator,
+    list: &mut List,
+    servers: [&dyn Server; 2],
+    tally: &mut Tally,
+) -> Result<(), Difference> {
+    let mut pair = Pair::new(list.geometry, servers)?;
+    let mut run = |pair: &mut Pair, step: Step| {
+        list.steps.push(step.clone());
+        let words = pair.store().words.clone();
+        let observed = pair.step(&step)?;
+        tally.add(&observed, pair.outcome(&observed));
+        if observed.served.is_some() {
+            tally.add_slots(&pair.geometry, &words, &pair.store().words);
+        }
+        Ok(observed.soundness)
+    };
+    let mut calls = Vec::new();
+    for _ in 0..generator.calls() {
+        let call = Step::Serve(generator.call(pair.store()));
+        calls.push(call.clone());
+        run(&mut pair, call)?;
+    }
+    let damage = Step::Damage(generator.damage(pair.store()));
+    if run(&mut pair, damage)? != 0 {
+        calls.truncate(CALLS_IF_UNSOUND);
+    }
+    for call in calls {
+        run(&mut pair, call)?;
+    }
+    tally.lists += 1;
+    Ok(())
+}
+
+/// A short list with a difference, and that difference.
+fn shortest(
+    mut list: List,
+    difference: Difference,
+    servers: [&dyn Server; 2],
+) -> (List, Difference) {
+    list.steps.truncate(difference.steps);
+    let list = shrink(list, |list| differs(list, servers).is_some());
+    // A server that doesn't answer alike each time keeps its first difference.
+    let difference = differs(&list, servers).unwrap_or(difference);
+    (list, difference)
+}

@@ -7,6 +7,7 @@ ghost use Rattle.store.specs.Edits.{EditPromise, RegionKnown};
 use crate::edit_plans::plan_allocate;
 use crate::geometry::Geometry;
 use crate::write::grow;
+use crate::write::slot_count;
 
 // `saved` has a word for each slot of a file.
 fn allocate_saving(
@@ -27,9 +28,8 @@ fn allocate_saving(
         r (record { sizes = now (sizes .exit); words = now (words .exit); mem = now (mem .entry) }) (now (counts .exit)) ⌝ }
 {
     let end = off + n;
-    let first = off / g.block_size;
-    let count = (end + (g.block_size - 1)) / g.block_size - first;
-    let i = f * g.slots + first;
+    let count = slot_count(g, off, end);
+    let i = f * g.slots + off / g.block_size;
     if !plan_allocate(words, counts, i, count, &mut saved[..count]) {
         return false;
     }

@@ -7,6 +7,7 @@ ghost use Rattle.store.specs.Edits.{EditPromise, CutKnown, RegionKnown, 
 use crate::bytes::zero_edges;
 use crate::edit_plans::plan_deallocate;
 use crate::geometry::Geometry;
+use crate::write::slot_count;
 
 // A DEALLOCATE in the slots from `first` on, as many as `old` has words to save.
 fn cut_range(
@@ -57,8 +58,7 @@ fn cut_saving(
         (editDeallocate (geometryOf g) (record { sizes = now (sizes .entry); words = now (words .entry); mem = now (mem .entry) }) f off end)
         r (record { sizes = now (sizes .entry); words = now (words .exit); mem = now (mem .exit) }) (now (counts .exit)) ⌝ }
 {
-    let first = off / g.block_size;
-    let n = (end + (g.block_size - 1)) / g.block_size - first;
+    let n = slot_count(g, off, end);
     cut_range(
         g,
         sizes,
@@ -66,7 +66,7 @@ fn cut_saving(
         mem,
         counts,
         f,
-        first,
+        off / g.block_size,
         off,
         end,
         &mut saved[..n],

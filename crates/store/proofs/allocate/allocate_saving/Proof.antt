@@ -10,41 +10,35 @@ use Rattle.store.proofs.allocate.allocate_saving.Tie as tie
 add-end : tie.Need-add-end
 add-end c = let s = c .before .before .before .before .before in omega (arith, region-room (s .pre .0))
 
-div-first : tie.Need-div-first
-div-first c = let s = c .before .before .before .before .before .before in omega (arith, region-room (s .pre .0))
-
-sub-count : tie.Need-sub-count
-sub-count c = let s = c .before .before .before .before .before .before .before in omega (arith, region-room (s .pre .0))
-
-add-count : tie.Need-add-count
-add-count c = let s = c .before .before .before .before .before .before .before in omega (arith, region-room (s .pre .0))
-
-div-count : tie.Need-div-count
-div-count c = let s = c .before .before .before .before .before .before .before .before in omega (arith, region-room (s .pre .0))
-
-sub-count-2 : tie.Need-sub-count-2
-sub-count-2 c = let s = c .before .before .before .before .before .before .before .before in omega (arith, region-room (s .pre .0))
+slot-count-requires : tie.Need-slot-count-requires
+slot-count-requires c κs = search needs
 
 mul-i : tie.Need-mul-i
-mul-i c = let s = c .before .before .before .before .before .before .before .before .before in omega (arith, region-inside (s .pre .0))
+mul-i c = let s = c .before .before .before .before .before .before .before in omega (arith, region-inside (s .pre .0))
+
+div-i : tie.Need-div-i
+div-i c = let s = c .before .before .before .before .before .before .before .before in omega (arith, region-room (s .pre .0))
 
 add-i : tie.Need-add-i
-add-i c = let s = c .before .before .before .before .before .before .before .before .before in omega (arith, region-inside (s .pre .0))
+add-i c = let s = c .before .before .before .before .before .before .before .before in omega (arith, region-inside (s .pre .0))
 
 slice-relend-prefix-plan-allocate : tie.Need-slice-relend-prefix-plan-allocate
 slice-relend-prefix-plan-allocate c =
-    let s = c .before .before .before .before .before .before .before .before .before .before .before in
-    omega (arith, region-room (s .pre .0), s .pre .1)
+    let k = c .before .before .before .before in
+    let s = k .before .before .before .before .before .before in
+    omega (arith, region-room (s .pre .0), s .pre .1, k .slot-count .ensures)
 
 slice-aggregate-plan-allocate : tie.Need-slice-aggregate-plan-allocate
 slice-aggregate-plan-allocate c =
-    let s = c .before .before .before .before .before .before .before .before .before .before .before .before in
-    sym (length-take-le _ _ (omega (arith, region-room (s .pre .0), s .pre .1)))
+    let k = c .before .before .before .before .before in
+    let s = k .before .before .before .before .before .before in
+    sym (length-take-le _ _ (omega (arith, region-room (s .pre .0), s .pre .1, k .slot-count .ensures)))
 
 plan-allocate-requires : tie.Need-plan-allocate-requires
 plan-allocate-requires c κs =
-    let s = c .before .before .before .before .before .before .before .before .before .before .before .before in
-    (s .pre .0 .known .counted, (region-inside (s .pre .0), length-take-le _ _ (omega (arith, region-room (s .pre .0), s .pre .1))))
+    let k = c .before .before .before .before .before in
+    let s = k .before .before .before .before .before .before in
+    (s .pre .0 .known .counted, (rw (k .slot-count .ensures) (region-inside (s .pre .0)), length-take-le _ _ (omega (arith, region-room (s .pre .0), s .pre .1, k .slot-count .ensures))))
 
 same-length : tie.Need-same-length
 same-length c = search needs
@@ -57,13 +51,14 @@ same-length-3 c = search needs
 
 returns : tie.Need-returns
 returns c =
-    let k = c .before .before .before .before .before .before .before in
-    let s = k .before .before .before .before .before .before .before .before .before .before .before .before .before in
-    allocate-refused (s .pre .0) (k .plan-allocate .kept .1 .0) (k .plan-allocate .ensures) (c .if1 .taken)
+    let p = c .before .before .before .before .before .before .before in
+    let k = p .before .before .before .before .before .before in
+    let s = k .before .before .before .before .before .before in
+    allocate-refused (s .pre .0) (p .plan-allocate .kept .1 .0) (rw (k .slot-count .ensures) at (p .plan-allocate .ensures)) (c .if1 .taken)
 
 grow-requires : tie.Need-grow-requires
 grow-requires c κs =
-    let s = c .before .before .before .before .before .before .before .before .before .before .before .before .before .before .before .before .before .before .before .before .before in
+    let s = c .before .before .before .before .before .before .before .before .before .before .before .before .before .before .before .before .before .before .before .before in
     region-file (s .pre .0)
 
 same-length-4 : tie.Need-same-length-4
@@ -82,21 +77,19 @@ returns-2 : tie.Need-returns-2
 returns-2 c =
     let d = c .before .before in
     let t = d .before .before in
-    let k = t .before .before .before .before .before .before .before in
-    let s = k .before .before .before .before .before .before .before .before .before .before .before .before .before in
-    allocate-done (s .pre .0) (k .plan-allocate .kept .1 .0) (k .plan-allocate .ensures) (t .if1 .left) (d .grow .ensures)
+    let p = t .before .before .before .before .before .before .before in
+    let k = p .before .before .before .before .before .before in
+    let s = k .before .before .before .before .before .before in
+    allocate-done (s .pre .0) (p .plan-allocate .kept .1 .0) (rw (k .slot-count .ensures) at (p .plan-allocate .ensures)) (t .if1 .left) (d .grow .ensures)
 
 pub allocate-saving-spec : {M : Type 1} → statement M
 allocate-saving-spec =
     tie.close
     (tie.spec
     add-end
-    div-first
-    sub-count
-    add-count
-    div-count
-    sub-count-2
+    slot-count-requires
     mul-i
+    div-i
     add-i
     slice-relend-prefix-plan-allocate
     slice-aggregate-plan-allocate

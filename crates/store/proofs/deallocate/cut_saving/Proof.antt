@@ -1,4 +1,4 @@
-use mathlib.Core.Path.{refl, sym}
+use mathlib.Core.Path.{refl, sym, _∙_}
 use native.Mathlib.Omega.{arith}
 use lib.Seq.{length-take-le}
 use Rattle.store.proofs.WriteEdit.{region-room}
@@ -6,45 +6,31 @@ use borrow.Author.Needs.{needs}
 use Rattle.store.proofs.deallocate.cut_saving.Statement.{statement}
 use Rattle.store.proofs.deallocate.cut_saving.Tie as tie
 
-div-first : tie.Need-div-first
-div-first c =
-    let s = c .before .before .before .before .before .before in
-    omega (arith, region-room (s .pre .0))
+slot-count-requires : tie.Need-slot-count-requires
+slot-count-requires c κs = search needs
 
-sub-n : tie.Need-sub-n
-sub-n c =
-    let s = c .before .before .before .before .before .before .before in
-    omega (arith, region-room (s .pre .0))
-
-add-n : tie.Need-add-n
-add-n c =
-    let s = c .before .before .before .before .before .before .before in
-    omega (arith, region-room (s .pre .0))
-
-div-n : tie.Need-div-n
-div-n c =
-    let s = c .before .before .before .before .before .before .before .before in
-    omega (arith, region-room (s .pre .0))
-
-sub-n-2 : tie.Need-sub-n-2
-sub-n-2 c =
-    let s = c .before .before .before .before .before .before .before .before in
+div-cut-range : tie.Need-div-cut-range
+div-cut-range c =
+    let s = c .before .before .before .before .before .before .before .before .before .before in
     omega (arith, region-room (s .pre .0))
 
 slice-relend-prefix-cut-range : tie.Need-slice-relend-prefix-cut-range
 slice-relend-prefix-cut-range c =
-    let s = c .before .before .before .before .before .before .before .before .before .before .before in
-    omega (arith, region-room (s .pre .0))
+    let k = c .before .before .before .before in
+    let s = k .before .before .before .before .before .before in
+    omega (arith, region-room (s .pre .0), s .pre .1, k .slot-count .ensures)
 
 slice-aggregate-cut-range : tie.Need-slice-aggregate-cut-range
 slice-aggregate-cut-range c =
-    let s = c .before .before .before .before .before .before .before .before .before .before .before .before in
-    sym (length-take-le _ _ (omega (arith, region-room (s .pre .0), s .pre .1)))
+    let k = c .before .before .before .before .before in
+    let s = k .before .before .before .before .before .before in
+    sym (length-take-le _ _ (omega (arith, region-room (s .pre .0), s .pre .1, k .slot-count .ensures)))
 
 cut-range-requires : tie.Need-cut-range-requires
 cut-range-requires c κs =
-    let s = c .before .before .before .before .before .before .before .before .before .before .before .before in
-    record { region = s .pre .0; first-is = refl; count-is = length-take-le _ _ (omega (arith, region-room (s .pre .0), s .pre .1)) }
+    let k = c .before .before .before .before .before in
+    let s = k .before .before .before .before .before .before in
+    record { region = s .pre .0; first-is = refl; count-is = length-take-le _ _ (omega (arith, region-room (s .pre .0), s .pre .1, k .slot-count .ensures)) ∙ k .slot-count .ensures }
 
 same-length : tie.Need-same-length
 same-length c = search needs
@@ -65,11 +51,8 @@ pub cut-saving-spec : {M : Type 1} → statement M
 cut-saving-spec =
     tie.close
     (tie.spec
-    div-first
-    sub-n
-    add-n
-    div-n
-    sub-n-2
+    slot-count-requires
+    div-cut-range
     slice-relend-prefix-cut-range
     slice-aggregate-cut-range
     cut-range-requires

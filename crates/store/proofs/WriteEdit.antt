@@ -112,6 +112,18 @@ slots-room g off end h some fits =
 pub region-room : {g : Geometry} {st : Store} {cs : List ℕ} {f off end : ℕ} → RegionKnown g st cs f off end → RegionRoom g off end
 region-room {g} {off = off} {end = end} k = slots-room g off end (k .known .shaped .geometry) (k .some) (k .fits)
 
+-- the words to save: of at least S the code lends n, as many as the region has slots
+module _ {g : Geometry} {st : Store} {cs : List ℕ} {f off end : ℕ} (k : RegionKnown g st cs f off end) {n : ℕ} (is : n ≡ slotCount g off end) where
+  pub saved-room : {m : ℕ} → g .S ≤ m → n ≤ m
+  saved-room h = omega (arith, region-room k .slots)
+
+  module _ (saved : List ℕ) (h : g .S ≤ length saved) where
+    pub saved-long : length (take n saved) ≡ n
+    saved-long = length-take-le n saved (saved-room h)
+
+    pub saved-slots : SlotsKnown g st cs f off end (firstSlot g off) (length (take n saved))
+    saved-slots = record { region = k; first-is = refl; count-is = saved-long ∙ is }
+
 -- ---- the slots of a WRITE
 
 abbrev pub slotAt : Geometry → ℕ → ℕ → ℕ

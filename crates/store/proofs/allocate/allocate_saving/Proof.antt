@@ -1,7 +1,6 @@
 use mathlib.Core.Path.{sym}
 use native.Mathlib.Omega.{arith}
-use lib.Seq.{length-take-le}
-use Rattle.store.proofs.WriteEdit.{region-room}
+use Rattle.store.proofs.WriteEdit.{region-room, saved-room, saved-long}
 use Rattle.store.proofs.PlanEdits.{region-inside, region-file, allocate-refused, allocate-done}
 use borrow.Author.Needs.{needs}
 use Rattle.store.proofs.allocate.allocate_saving.Statement.{statement}
@@ -26,19 +25,19 @@ slice-relend-prefix-plan-allocate : tie.Need-slice-relend-prefix-plan-allocate
 slice-relend-prefix-plan-allocate c =
     let k = c .before .before .before .before in
     let s = k .before .before .before .before .before .before in
-    omega (arith, region-room (s .pre .0), s .pre .1, k .slot-count .ensures)
+    saved-room (s .pre .0) (k .slot-count .ensures) (s .pre .1)
 
 slice-aggregate-plan-allocate : tie.Need-slice-aggregate-plan-allocate
 slice-aggregate-plan-allocate c =
     let k = c .before .before .before .before .before in
     let s = k .before .before .before .before .before .before in
-    sym (length-take-le _ _ (omega (arith, region-room (s .pre .0), s .pre .1, k .slot-count .ensures)))
+    sym (saved-long (s .pre .0) (k .slot-count .ensures) _ (s .pre .1))
 
 plan-allocate-requires : tie.Need-plan-allocate-requires
 plan-allocate-requires c κs =
     let k = c .before .before .before .before .before in
     let s = k .before .before .before .before .before .before in
-    (s .pre .0 .known .counted, (rw (k .slot-count .ensures) (region-inside (s .pre .0)), length-take-le _ _ (omega (arith, region-room (s .pre .0), s .pre .1, k .slot-count .ensures))))
+    (s .pre .0 .known .counted, (rw (k .slot-count .ensures) (region-inside (s .pre .0)), saved-long (s .pre .0) (k .slot-count .ensures) _ (s .pre .1)))
 
 same-length : tie.Need-same-length
 same-length c = search needs

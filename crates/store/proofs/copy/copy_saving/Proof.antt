@@ -1,7 +1,6 @@
-use mathlib.Core.Path.{refl, sym, _∙_}
+use mathlib.Core.Path.{sym}
 use native.Mathlib.Omega.{arith}
-use lib.Seq.{length-take-le}
-use Rattle.store.proofs.WriteEdit.{region-room}
+use Rattle.store.proofs.WriteEdit.{region-room, saved-room, saved-long, saved-slots}
 use borrow.Author.Needs.{needs}
 use Rattle.store.proofs.copy.copy_saving.Statement.{statement}
 use Rattle.store.proofs.copy.copy_saving.Tie as tie
@@ -10,9 +9,7 @@ add-slot-count : tie.Need-add-slot-count
 add-slot-count c = let s = c .before .before .before .before .before in omega (arith, region-room (s .pre .0))
 
 slot-count-requires : tie.Need-slot-count-requires
-slot-count-requires c κs =
-    let s = c .before .before .before .before .before in
-    (s .pre .0 .known .shaped .geometry, (s .pre .0 .some, s .pre .0 .fits))
+slot-count-requires c κs = search needs
 
 div-copy-planned : tie.Need-div-copy-planned
 div-copy-planned c =
@@ -23,19 +20,19 @@ slice-relend-prefix-copy-planned : tie.Need-slice-relend-prefix-copy-planned
 slice-relend-prefix-copy-planned c =
     let k = c .before .before .before .before .before in
     let s = k .before .before .before .before .before .before in
-    omega (arith, region-room (s .pre .0), s .pre .1 .1, k .slot-count .ensures)
+    saved-room (s .pre .0) (k .slot-count .ensures) (s .pre .1 .1)
 
 slice-aggregate-copy-planned : tie.Need-slice-aggregate-copy-planned
 slice-aggregate-copy-planned c =
     let k = c .before .before .before .before .before .before in
     let s = k .before .before .before .before .before .before in
-    sym (length-take-le _ _ (omega (arith, region-room (s .pre .0), s .pre .1 .1, k .slot-count .ensures)))
+    sym (saved-long (s .pre .0) (k .slot-count .ensures) _ (s .pre .1 .1))
 
 copy-planned-requires : tie.Need-copy-planned-requires
 copy-planned-requires c κs =
     let k = c .before .before .before .before .before .before in
     let s = k .before .before .before .before .before .before in
-    (record { region = s .pre .0; first-is = refl; count-is = length-take-le _ _ (omega (arith, region-room (s .pre .0), s .pre .1 .1, k .slot-count .ensures)) ∙ k .slot-count .ensures }, s .pre .1 .0)
+    (saved-slots (s .pre .0) (k .slot-count .ensures) _ (s .pre .1 .1), s .pre .1 .0)
 
 same-length : tie.Need-same-length
 same-length c = search needs

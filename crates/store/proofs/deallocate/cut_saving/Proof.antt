@@ -1,7 +1,6 @@
-use mathlib.Core.Path.{refl, sym, _∙_}
+use mathlib.Core.Path.{sym}
 use native.Mathlib.Omega.{arith}
-use lib.Seq.{length-take-le}
-use Rattle.store.proofs.WriteEdit.{region-room}
+use Rattle.store.proofs.WriteEdit.{region-room, saved-room, saved-long, saved-slots}
 use borrow.Author.Needs.{needs}
 use Rattle.store.proofs.deallocate.cut_saving.Statement.{statement}
 use Rattle.store.proofs.deallocate.cut_saving.Tie as tie
@@ -18,19 +17,19 @@ slice-relend-prefix-cut-range : tie.Need-slice-relend-prefix-cut-range
 slice-relend-prefix-cut-range c =
     let k = c .before .before .before .before in
     let s = k .before .before .before .before .before .before in
-    omega (arith, region-room (s .pre .0), s .pre .1, k .slot-count .ensures)
+    saved-room (s .pre .0) (k .slot-count .ensures) (s .pre .1)
 
 slice-aggregate-cut-range : tie.Need-slice-aggregate-cut-range
 slice-aggregate-cut-range c =
     let k = c .before .before .before .before .before in
     let s = k .before .before .before .before .before .before in
-    sym (length-take-le _ _ (omega (arith, region-room (s .pre .0), s .pre .1, k .slot-count .ensures)))
+    sym (saved-long (s .pre .0) (k .slot-count .ensures) _ (s .pre .1))
 
 cut-range-requires : tie.Need-cut-range-requires
 cut-range-requires c κs =
     let k = c .before .before .before .before .before in
     let s = k .before .before .before .before .before .before in
-    record { region = s .pre .0; first-is = refl; count-is = length-take-le _ _ (omega (arith, region-room (s .pre .0), s .pre .1, k .slot-count .ensures)) ∙ k .slot-count .ensures }
+    saved-slots (s .pre .0) (k .slot-count .ensures) _ (s .pre .1)
 
 same-length : tie.Need-same-length
 same-length c = search needs

@@ -1,5 +1,5 @@
 -- ALLOCATE: no block changes hands, so no byte changes; every touched slot is reserved afterwards.
-use Prim.Native.Nat.{ℕ, zero, suc, _+_, _-_, _*_, _/_, _%_, _≤_, _<_, max}
+use Prim.Native.Nat.{ℕ, zero, suc, _+_, _*_, _/_, _%_, _≤_, _<_, max}
 use mathlib.Core.Path.{_≡_, refl, _∙_}
 use mathlib.Core.List.{List}
 use mathlib.Core.Logic.{_≢_}
@@ -15,8 +15,8 @@ use Rattle.store.specs.Content.{slotByte, byteAt}
 use Rattle.store.specs.Edit.{each, firstSlot, slotCount}
 use Rattle.store.specs.Allocate.{reserve, planAllocate, editAllocate}
 use Rattle.store.proofs.PlanLaws.{each-keeps, set-keeps}
-use Rattle.store.proofs.ViewLaws.{Local, plan-before, plan-after}
-use Rattle.store.proofs.FileLaws.{div-le, ceil-le, Sound, Edited, other-words, slots-fit}
+use Rattle.store.proofs.ViewLaws.{Local, plan-before}
+use Rattle.store.proofs.FileLaws.{Sound, Edited, other-words, slots-fit, plan-past}
 
 -- slots of two words that hold the same block show the same bytes
 pub same-block : (g : Geometry) (m : List ℕ) (w x j : ℕ) → w / 2 ≡ x / 2 → slotByte g m w j ≡ slotByte g m x j
@@ -92,9 +92,7 @@ module _ (g : Geometry) (pos : 0 < g .B) (st : Store) (snd : Sound g st) (f off 
   plan-beyond : (k : ℕ) → k < g .S → max (sizeOf st f) end ≤ k * g .B → wordOf g (planAllocate g (st .words) f off end) f k ≡ 0
   unfolding planAllocate
   plan-beyond k hk l =
-      plan-after (f * g .S) (reserve (f * g .S)) (reserve-local (f * g .S)) (slotCount g off end) (firstSlot g off) (f * g .S + k) (st .words)
-      (omega (arith, ceil-le pos end k (omega arith), div-le pos off k (omega arith)))
-      ∙ snd .beyond f k hf hk (omega arith)
+      plan-past g pos off end some fits f (reserve (f * g .S)) (reserve-local (f * g .S)) (st .words) k (omega arith) ∙ snd .beyond f k hf hk (omega arith)
 
   -- no byte of any file changes
   pub allocate-bytes : (e i : ℕ) → byteAt g (editAllocate g st f off end) e i ≡ byteAt g st e i

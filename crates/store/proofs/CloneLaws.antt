@@ -20,7 +20,7 @@ use Rattle.store.specs.Tables.{InPool}
 use Rattle.store.proofs.WriteLaws.{inside, outside}
 use Rattle.store.proofs.PlanLaws.{each-keeps, SameR, each-sameR, share-sameR, inPool-set}
 use Rattle.store.proofs.ViewLaws.{Local, plan-before, plan-after}
-use Rattle.store.proofs.FileLaws.{div-lt, ceil-le, le-ceil, Sound, Edited, apart}
+use Rattle.store.proofs.FileLaws.{div-lt, le-ceil, ceil-behind, Sound, Edited, apart}
 use Rattle.store.proofs.AllocateLaws.{same-block}
 
 pub share-local : (from to : ℕ) → Local to (share from to)
@@ -77,17 +77,7 @@ module _ (g : Geometry) (pos : 0 < g .B) (st : Store) (snd : Sound g st) (s f so
   -- x blocks and then c bytes fit below y blocks: so do x + n blocks
   fits-slots : (x y : ℕ) → x * g .B + c ≤ y * g .B → x + n ≤ y
   unfolding n
-  fits-slots x y h = go (decLe x y)
-    where
-      go : Dec (x ≤ y) → x + ceilDiv c (g .B) ≤ y
-      go (yes l) =
-          let t = le-dest l in
-          let e : y * g .B ≡ x * g .B + t .0 * g .B = ap (λ z. z * g .B) (sym (t .1)) ∙ omega arith in
-          omega (arith, t .1, ceil-le pos c (t .0) (omega (arith, e)))
-      go (no d) = absurd (omega (arith, mul-le-mul-right (g .B) (above d)))
-        where
-          above : (x ≤ y → ⊥) → y ≤ x
-          above d = omega (arith, d)
+  fits-slots x y h = ceil-behind pos x c y h
 
   a-fits : a + n ≤ g .S
   a-fits = fits-slots a (g .S) (omega (arith, a-is, source, snd .fits s hs))

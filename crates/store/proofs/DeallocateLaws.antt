@@ -1,5 +1,5 @@
 -- DEALLOCATE: slots whose bytes below the size all lie in the region are given back; in the others the region's bytes become zero.
-use Prim.Native.Nat.{ℕ, zero, suc, _+_, _-_, _*_, _/_, _%_, _≤_, _<_, min}
+use Prim.Native.Nat.{ℕ, zero, suc, _+_, _*_, _/_, _%_, _≤_, _<_, min}
 use mathlib.Core.Path.{_≡_, refl, sym, ap, _∙_}
 use mathlib.Core.Bool.{Bool, true, false, cond, _&&_, not, false≢true}
 use mathlib.Core.List.{List}
@@ -19,8 +19,8 @@ use Rattle.store.specs.Edit.{each, ownUnless, within, firstSlot, slotCou
 use Rattle.store.specs.Deallocate.{giveBack, whole, stays, planGiveBack, planDeallocate, zeroBytes, editDeallocate}
 use Rattle.store.specs.Tables.{InPool}
 use Rattle.store.proofs.PlanLaws.{each-keeps, SameR, each-sameR, ownUnless-sameR, plan-pool}
-use Rattle.store.proofs.ViewLaws.{Local, plan-before, plan-after, own-local, Wrote, wrote}
-use Rattle.store.proofs.FileLaws.{div-le, div-lt, ceil-le, Sound, Edited, other-words, slots-fit, slot-in}
+use Rattle.store.proofs.ViewLaws.{Local, plan-before, own-local, Wrote, wrote}
+use Rattle.store.proofs.FileLaws.{div-lt, Sound, Edited, other-words, slots-fit, plan-past, slot-in}
 use Rattle.store.proofs.WriteLaws.{outside, inside, file-mine, file-other}
 use Rattle.store.proofs.BoolLaws.{and-left, and-right}
 
@@ -117,17 +117,8 @@ unfolding editDeallocate
 deallocate-is g st f off end some = rw (lt-leb end off some)
 
 module _ (g : Geometry) (pos : 0 < g .B) (st : Store) (snd : Sound g st) (f off end : ℕ) (hf : f < g .F) (some : off < end) (cut : end ≤ sizeOf st f) where
-  size : ℕ
-  size = sizeOf st f
-
   fits : end ≤ g .S * g .B
   fits = le-trans cut (snd .fits f hf)
-
-  k₀ : ℕ
-  k₀ = firstSlot g off
-
-  n : ℕ
-  n = slotCount g off end
 
   ws₁ : List ℕ
   ws₁ = planGiveBack g (st .words) f (sizeOf st f) off end
@@ -166,11 +157,11 @@ module _ (g : Geometry) (pos : 0 < g .B) (st : Store) (snd : Sound g st) (f off 
   plan-beyond : (k : ℕ) → k < g .S → sizeOf st f ≤ k * g .B → wordOf g ws′ f k ≡ 0
   unfolding planDeallocate planGiveBack
   plan-beyond k hk l =
-      let past : f * g .S + (firstSlot g off + slotCount g off end) ≤ f * g .S + k = omega (arith, cut, ceil-le pos end k (omega (arith, cut)), div-le pos off k (omega (arith, cut))) in
-      plan-after (f * g .S) (ownUnless (stays g (st .words) f (sizeOf st f) off end) (f * g .S)) (own-local (stays g (st .words) f (sizeOf st f) off end) (f * g .S))
-      (slotCount g off end) (firstSlot g off) (f * g .S + k) (planGiveBack g (st .words) f (sizeOf st f) off end) past
-      ∙ plan-after (f * g .S) (giveBack (f * g .S) (whole g (sizeOf st f) off end)) (giveBack-local (f * g .S) (whole g (sizeOf st f) off end))
-      (slotCount g off end) (firstSlot g off) (f * g .S + k) (st .words) past
+      let past : end ≤ k * g .B = omega (arith, cut) in
+      plan-past g pos off end some fits f (ownUnless (stays g (st .words) f (sizeOf st f) off end) (f * g .S))
+      (own-local (stays g (st .words) f (sizeOf st f) off end) (f * g .S)) (planGiveBack g (st .words) f (sizeOf st f) off end) k past
+      ∙ plan-past g pos off end some fits f (giveBack (f * g .S) (whole g (sizeOf st f) off end))
+      (giveBack-local (f * g .S) (whole g (sizeOf st f) off end)) (st .words) k past
       ∙ snd .beyond f k hf hk l
 
   -- a reserved slot that is not given back stays reserved

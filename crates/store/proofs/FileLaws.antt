@@ -3,7 +3,7 @@ use Prim.Native.Nat.{ℕ, suc, _+_, _-_, _*_, _/_, _≤_, _<_}
 use mathlib.Core.Path.{_≡_, _∙_}
 use mathlib.Core.List.{List}
 use mathlib.Core.Logic.{_≢_, _⊎_, inl, inr}
-use native.Mathlib.Nat.{le-refl, le-of-suc-le-suc, mul-le-mul-right, div-lt-iff-lt-mul}
+use native.Mathlib.Nat.{le-refl, le-of-suc-le-suc, mul-le-mul-right, mul-add-div-right, div-lt-iff-lt-mul}
 use native.Mathlib.Decide.{ℕ-discrete, decLe}
 use native.Mathlib.Omega.{arith}
 use lib.ListN.{length}
@@ -34,6 +34,12 @@ module _ {b : ℕ} (pos : 0 < b) where
 
   pub div-lt : (i q : ℕ) → i < q * b → i / b < q
   div-lt i q h = div-lt-iff-lt-mul {k = b} {x = i} {y = q} pos .1 h
+
+  -- n bytes behind k slots
+  pub ceil-behind : (k n q : ℕ) → k * b + n ≤ q * b → k + ceilDiv n b ≤ q
+  ceil-behind k n q h =
+      let e : k * b + n + (b - 1) ≡ k * b + (n + (b - 1)) = omega arith in
+      rw (e, mul-add-div-right {m = b} pos k (n + (b - 1))) at (ceil-le (k * b + n) q h)
 
 -- ---- a sound store
 
@@ -120,6 +126,12 @@ module _ (g : Geometry) (pos : 0 < g .B) (off end : ℕ) (some : off < end) (fit
 
   pub slots-fit : firstSlot g off + slotCount g off end ≤ g .S
   slots-fit = omega (arith, ceil-le pos end (g .S) fits, first-before)
+
+  -- a plan of them changes no word of its file behind the region
+  pub plan-past : (f : ℕ) (step : List ℕ → ℕ → List ℕ) → Local (f * g .S) step → (ws : List ℕ) (k : ℕ) → end ≤ k * g .B
+      → wordOf g (each step ws (firstSlot g off) (slotCount g off end)) f k ≡ wordOf g ws f k
+  plan-past f step local ws k h =
+      plan-after (f * g .S) step local (slotCount g off end) (firstSlot g off) (f * g .S + k) ws (omega (arith, ceil-le pos end k h, first-before))
 
   -- a slot of the region, by its bytes
   pub slot-in : (q : ℕ) → off < q * g .B + g .B → q * g .B < end → (firstSlot g off ≤ q) × (q < firstSlot g off + slotCount g off end)

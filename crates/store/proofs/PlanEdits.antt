@@ -1,9 +1,9 @@
 -- ALLOCATE and CLONE in place: a plan, then the size; the memory stays.
-use Prim.Native.Nat.{ℕ, _+_, _-_, _*_, _/_, _%_, _≤_, _<_, max}
+use Prim.Native.Nat.{ℕ, _+_, _*_, _/_, _%_, _≤_, _<_, max}
 use mathlib.Core.Path.{_≡_, refl}
 use mathlib.Core.Bool.{Bool, true, false, not}
 use mathlib.Core.List.{List}
-use native.Mathlib.Nat.{mul-le-mul-right, mul-add-div-right, div-add-mod'}
+use native.Mathlib.Nat.{mul-le-mul-right, div-add-mod'}
 use native.Mathlib.Omega.{arith}
 use borrow.Author.Tests.{le-leb, lt-leb}
 use lib.ListN.{length, set}
@@ -16,7 +16,7 @@ use Rattle.store.specs.Allocate.{reserve, editAllocate}
 use Rattle.store.specs.Clone.{share, editClone}
 use Rattle.store.specs.Edits.{EditPromise, RegionKnown, SlotsKnown, CloneKnown}
 use Rattle.store.proofs.GeometryLaws.{block-pos, file-most}
-use Rattle.store.proofs.FileLaws.{ceil-le}
+use Rattle.store.proofs.FileLaws.{ceil-behind}
 use Rattle.store.proofs.RangeLaws.{plan-allocate-is, plan-clone-is}
 use Rattle.store.proofs.WriteEdit.{good-geometry, sound-store, edit-none, plan-refused, plan-done, slotAt, slots-inside, file-inside}
 
@@ -50,9 +50,7 @@ module _ {g : Geometry} {st : Store} {cs : List ℕ} {f off end : ℕ} (k : Regi
 
 -- n bytes from a whole block on: their blocks end where they do
 even-slots : {b : ℕ} → 0 < b → (off n s : ℕ) → off % b ≡ 0 → off + n ≤ s * b → off / b + ceilDiv n b ≤ s
-even-slots {b} pos off n s e h =
-    let p : off + n + (b - 1) ≡ off / b * b + (n + (b - 1)) = omega (arith, div-add-mod' off b) in
-    rw (p, mul-add-div-right {m = b} pos (off / b) (n + (b - 1))) at (ceil-le pos (off + n) s h)
+even-slots {b} pos off n s e h = ceil-behind pos (off / b) n s (omega (arith, div-add-mod' off b))
 
 -- numbers that the code computes
 pub record CloneRoom (g : Geometry) (st : Store) (s f soff off n : ℕ) : Type 0 where

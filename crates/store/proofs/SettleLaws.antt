@@ -16,6 +16,7 @@ use Rattle.store.specs.Tables.{InPool}
 use Rattle.store.specs.Plan.{Counted, fitsPool, Planned}
 use Rattle.store.specs.Edit.{each, firstSlot, slotCount, own, ownUnless}
 use Rattle.store.specs.Deallocate.{whole, giveBack, stays, planGiveBack, planDeallocate}
+use Rattle.store.specs.Ranges.{RangeDone}
 use Rattle.store.specs.Own.{Undone, SlotOwned, RangeOwned, staysBy}
 use Rattle.store.proofs.PlanLaws.{each-ext}
 use Rattle.store.proofs.ViewLaws.{Local, own-local}
@@ -98,8 +99,14 @@ module _ (ws : List ℕ) (i n : ℕ) (old : List ℕ) (saved : old ≡ take (i +
         → Planned ws planned false after cs
     planned-undone e same u = planned-back e same (u .words-are ∙ saved-back) (u .counted)
 
-    pub planned-settled : {planned after cs : List ℕ} {d : Bool} → mid ≡ planned → Planned (splice mid i old) mid d after cs → Planned ws planned d after cs
+    planned-settled : {planned after cs : List ℕ} {d : Bool} → mid ≡ planned → Planned (splice mid i old) mid d after cs → Planned ws planned d after cs
     planned-settled e p = rw (saved-back, e) at p
+
+  -- all the steps of a plan for these slots, then `settle`
+  pub plan-settled : i + n ≤ length ws → (step : List ℕ → ℕ → List ℕ) → Local i step → {mid after cs cs′ : List ℕ} {d : Bool}
+      → RangeDone (each step ws 0 n) mid cs → length mid ≡ length ws → Planned (splice mid i old) mid d after cs′ → Planned ws (each step ws 0 n) d after cs′
+  plan-settled inside step local {mid} r long =
+      planned-settled inside (plan-outside i step local 0 n n i ws mid (omega arith) (omega arith) (r .words-are) long) (r .words-are)
 
   -- unshared blocks for the slots of a range, from the words `given`, which are `start`
   module _ (inside : i + n ≤ length ws) {given start mid cs : List ℕ} (o : Outside ws i n given) (e : given ≡ start) {skip : ℕ → Bool} {at first r : ℕ}

@@ -1,5 +1,5 @@
 -- From slots to files: what storing a region's bytes, slot by slot, does to the bytes of each file; and WRITE.
-use Prim.Native.Nat.{ℕ, _+_, _-_, _*_, _/_, _%_, _≤_, _<_, max}
+use Prim.Native.Nat.{ℕ, _+_, _*_, _/_, _%_, _≤_, _<_, max}
 use mathlib.Core.Path.{_≡_, _∙_}
 use mathlib.Core.Bool.{Bool, true, false, cond, _&&_, not}
 use mathlib.Core.Logic.{_≢_, _⊎_, inl, inr}
@@ -13,12 +13,12 @@ use Rattle.store.specs.Geometry.{Geometry}
 use Rattle.store.specs.Store.{Store, sizeOf, wordOf}
 use Rattle.store.specs.Blocks.{used, owed}
 use Rattle.store.specs.Content.{byteAt}
-use Rattle.store.specs.Edit.{each, own, within, firstSlot, slotCount}
+use Rattle.store.specs.Edit.{own, within, firstSlot, slotCount}
 use Rattle.store.specs.Write.{planWrite, writeBytes, editWrite}
 use Rattle.store.specs.Tables.{InPool}
 use Rattle.store.proofs.PlanLaws.{SameR, each-sameR, own-sameR, plan-pool, own-reserved}
-use Rattle.store.proofs.ViewLaws.{view, plan-after, own-local, Wrote, wrote}
-use Rattle.store.proofs.FileLaws.{div-le, div-ge, div-lt, ceil-le, Sound, Edited, apart, in-file, other-words, slots-fit, slot-in}
+use Rattle.store.proofs.ViewLaws.{view, own-local, Wrote, wrote}
+use Rattle.store.proofs.FileLaws.{div-le, div-ge, div-lt, Sound, Edited, apart, in-file, other-words, slots-fit, plan-past, slot-in}
 use Rattle.store.proofs.BoolLaws.{and-false}
 
 pub outside : (off end i : ℕ) → (i < off) ⊎ (end ≤ i) → within off end i ≡ false
@@ -115,9 +115,7 @@ module _ (g : Geometry) (pos : 0 < g .B) (st : Store) (snd : Sound g st) (f off 
   plan-beyond : (k : ℕ) → k < g .S → max (sizeOf st f) end ≤ k * g .B → wordOf g (planWrite g (st .words) f off end) f k ≡ 0
   unfolding planWrite
   plan-beyond k hk l =
-      plan-after (f * g .S) (own (f * g .S)) (own-local (λ k. false) (f * g .S)) (slotCount g off end) (firstSlot g off) (f * g .S + k) (st .words)
-      (omega (arith, ceil-le pos end k (omega arith), div-le pos off k (omega arith)))
-      ∙ snd .beyond f k hf hk (omega arith)
+      plan-past g pos off end some fits f (own (f * g .S)) (own-local (λ k. false) (f * g .S)) (st .words) k (omega arith) ∙ snd .beyond f k hf hk (omega arith)
 
   module _ (room : used (planWrite g (st .words) f off end) + owed (planWrite g (st .words) f off end) ≤ g .N) where
     plan-in : InPool (g .N) (planWrite g (st .words) f off end)

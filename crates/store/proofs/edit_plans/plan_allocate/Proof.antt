@@ -1,7 +1,7 @@
 use native.Mathlib.Omega.{arith}
 use borrow.Author.Needs.{needs}
 use Rattle.store.proofs.AllocateLaws.{reserve-local}
-use Rattle.store.proofs.SettleLaws.{saved-pool, plan-outside, planned-settled}
+use Rattle.store.proofs.SettleLaws.{saved-pool, plan-settled}
 use Rattle.store.proofs.edit_plans.plan_allocate.Statement.{statement}
 use Rattle.store.proofs.edit_plans.plan_allocate.Tie as tie
 
@@ -50,9 +50,7 @@ returns c =
     let k = o .before .before .before .before .before in
     let s = k .before .before .before .before .before .before .before in
     let a = s .args in
-    planned-settled _ (a .i) (a .n) _ (k .save-words .ensures) (s .pre .1 .0)
-    (plan-outside _ _ (reserve-local (a .i)) 0 (a .n) (a .n) _ _ _ (omega arith) (omega arith) (o .reserve-range .ensures .words-are) (o .reserve-range .kept .0))
-    (o .reserve-range .ensures .words-are) (f .settle .ensures)
+    plan-settled _ (a .i) (a .n) _ (k .save-words .ensures) (s .pre .1 .0) _ (reserve-local (a .i)) (o .reserve-range .ensures) (o .reserve-range .kept .0) (f .settle .ensures)
 
 pub plan-allocate-spec : {M : Type 1} → statement M
 plan-allocate-spec =

@@ -1,7 +1,7 @@
 use native.Mathlib.Omega.{arith}
 use borrow.Author.Needs.{needs}
 use Rattle.store.proofs.CloneLaws.{share-local}
-use Rattle.store.proofs.SettleLaws.{saved-pool, plan-outside, planned-settled}
+use Rattle.store.proofs.SettleLaws.{saved-pool, plan-settled}
 use Rattle.store.proofs.edit_plans.plan_clone.Statement.{statement}
 use Rattle.store.proofs.edit_plans.plan_clone.Tie as tie
 
@@ -50,9 +50,7 @@ returns c =
     let k = o .before .before .before .before .before in
     let s = k .before .before .before .before .before .before .before in
     let a = s .args in
-    planned-settled _ (a .to) (a .n) _ (k .save-words .ensures) (s .pre .1 .1 .0)
-    (plan-outside _ _ (share-local (a .from) (a .to)) 0 (a .n) (a .n) _ _ _ (omega arith) (omega arith) (o .share-range .ensures .words-are) (o .share-range .kept .0))
-    (o .share-range .ensures .words-are) (f .settle .ensures)
+    plan-settled _ (a .to) (a .n) _ (k .save-words .ensures) (s .pre .1 .1 .0) _ (share-local (a .from) (a .to)) (o .share-range .ensures) (o .share-range .kept .0) (f .settle .ensures)
 
 pub plan-clone-spec : {M : Type 1} → statement M
 plan-clone-spec =

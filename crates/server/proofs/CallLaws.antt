@@ -1,0 +1,52 @@
+-- From what the calls below promise to what the exported ones do, and back to the claim's step.
+use Prim.Native.Nat.{ℕ}
+use mathlib.Core.Path.{_≡_, ap, subst, _∙_}
+use mathlib.Core.List.{List, [], _∷_}
+use lib.ListN.{getD}
+use Rattle.store.specs.Geometry.{Geometry}
+use Rattle.store.specs.Store.{Store}
+use Rattle.store.specs.Calls.{MakePromise, storeRefusal, CountPromise}
+use Rattle.compound.specs.Serve.{Outcome}
+use Rattle.compound.specs.Claim.{Call, Contract}
+use Rattle.server.specs.Calls.{CountsPromise, ServePromise}
+
+two : (a b x y : ℕ) → a ≡ x → b ≡ y → a ∷ b ∷ [] ≡ x ∷ y ∷ []
+two a b x y e f = rw (e, f)
+
+pub made : (g h : Geometry) (st after : Store) (n : ℕ) → g ≡ h → MakePromise g st n after → MakePromise h st n after
+made g h st after n e p = subst (λ (k : Geometry). MakePromise k st n after) e p
+
+pub judged : (g h : Geometry) (st : Store) (n : ℕ) → g ≡ h → n ≡ storeRefusal g st → n ≡ storeRefusal h st
+judged g h st n e p = p ∙ ap (λ (k : Geometry). storeRefusal k st) e
+
+pub counted : (g h : Geometry) (st : Store) (n u o : ℕ) → g ≡ h → CountPromise g st n u o → CountsPromise h st n (u ∷ o ∷ [])
+counted g h st n u o e p =
+    let q = subst (λ (k : Geometry). CountPromise k st n u o) e p in
+    record { number-is = q .number-is; counts-are = two _ _ _ _ (q .used-is) (q .owed-is) }
+
+pub answered : (g h : Geometry) (v s buf : List ℕ) (st : Store) (o : Outcome) → g ≡ h
+    → Contract (record { geometry = g; verifier = v; request = s; buffer = buf }) st o
+    → ServePromise (record { geometry = h; verifier = v; request = s; buffer = buf }) st (o .number) (o .read ∷ o .written ∷ []) (o .reply) (o .store)
+answered g h v s buf st o e p =
+    let q = subst (λ (k : Geometry). Contract (record { geometry = k; verifier = v; request = s; buffer = buf }) st o) e p in
+    record {
+      number-is = q .number;
+      counts-are = two _ _ _ _ (q .read) (q .written);
+      reply-is = q .reply;
+      sizes-are = q .sizes;
+      words-are = q .words;
+      mem-is = q .mem;
+    }
+
+-- a call of the exported function is a step of the claim's list
+pub step-of : (c : Call) (st after : Store) (n : ℕ) (counts reply : List ℕ) → ServePromise c st n counts reply after
+    → Contract c st (record { number = n; read = getD counts 0 0; written = getD counts 1 0; reply = reply; store = after })
+step-of c st after n counts reply p = record {
+  number = p .number-is;
+  read = ap (λ (l : List ℕ). getD l 0 0) (p .counts-are);
+  written = ap (λ (l : List ℕ). getD l 1 0) (p .counts-are);
+  reply = p .reply-is;
+  sizes = p .sizes-are;
+  words = p .words-are;
+  mem = p .mem-is;
+}

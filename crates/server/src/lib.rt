@@ -1,0 +1,119 @@
+// The calls for a front end: server.h has their C declarations. Each hands its arguments to the call below it.
+ghost use mathlib.Core.Path.{_≡_};
+ghost use Rattle.store.specs.Geometry.{geometryOf};
+ghost use Rattle.store.specs.Calls.{MakePromise, storeRefusal};
+ghost use Rattle.server.specs.Calls.{CountsPromise, ServePromise};
+use store::Geometry;
+
+fn geometry(files: u64, slots: u64, blocks: u64, block_size: u64) -> Geometry
+    ensures { λ g. ⌜ geometryOf g ≡ record { F = files; S = slots; N = blocks; B = «block_size» } ⌝ }
+{
+    Geometry {
+        files: files as usize,
+        slots: slots as usize,
+        blocks: blocks as usize,
+        block_size: block_size as usize,
+    }
+}
+
+// Zeroes every table: 0, or refusal 1 or 2.
+#[no_mangle]
+pub extern "C" fn store_make_empty(
+    files: u64,
+    slots: u64,
+    blocks: u64,
+    block_size: u64,
+    sizes: &mut [u64],
+    words: &mut [u32],
+    mem: &mut [u8],
+) -> u32
+    ensures { λ r. ⌜ MakePromise (record { F = files; S = slots; N = blocks; B = «block_size» })
+        (record { sizes = now (sizes .entry); words = now (words .entry); mem = now (mem .entry) }) r
+        (record { sizes = now (sizes .exit); words = now (words .exit); mem = now (mem .exit) }) ⌝ }
+{
+    store::make_empty(
+        geometry(files, slots, blocks, block_size),
+        sizes,
+        words,
+        mem,
+    )
+}
+
+// Whether the store is sound: 0, or refusal 1, 2 or 3.
+#[no_mangle]
+pub extern "C" fn store_soundness(
+    files: u64,
+    slots: u64,
+    blocks: u64,
+    block_size: u64,
+    sizes: &[u64],
+    words: &[u32],
+    mem: &[u8],
+) -> u32
+    ensures { λ r. ⌜ r ≡ storeRefusal (record { F = files; S = slots; N = blocks; B = «block_size» })
+        (record { sizes = now (sizes .entry); words = now (words .entry); mem = now (mem .entry) }) ⌝ }
+{
+    store::soundness(
+        geometry(files, slots, blocks, block_size),
+        sizes,
+        words,
+        mem,
+    )
+}
+
+// Used and owed blocks: 0, or refusal 1, 2 or 3 and zero counts.
+#[no_mangle]
+pub extern "C" fn store_count_blocks(
+    files: u64,
+    slots: u64,
+    blocks: u64,
+    block_size: u64,
+    sizes: &[u64],
+    words: &[u32],
+    mem: &[u8],
+    counts: &mut [u64; 2],
+) -> u32
+    ensures { λ r. ⌜ CountsPromise (record { F = files; S = slots; N = blocks; B = «block_size» })
+        (record { sizes = now (sizes .entry); words = now (words .entry); mem = now (mem .entry) }) r (now (counts .exit)) ⌝ }
+{
+    let c = store::count_blocks(
+        geometry(files, slots, blocks, block_size),
+        sizes,
+        words,
+        mem,
+    );
+    *counts = [c.used as u64, c.owed as u64];
+    c.number
+}
+
+// Serves a compound: 0 with the bytes read and written, or refusal 1 to 6 and zero counts.
+#[no_mangle]
+pub extern "C" fn compound_serve(
+    files: u64,
+    slots: u64,
+    blocks: u64,
+    block_size: u64,
+    sizes: &mut [u64],
+    words: &mut [u32],
+    mem: &mut [u8],
+    verifier: &[u8],
+    request: &[u8],
+    reply: &mut [u8],
+    counts: &mut [u64; 2],
+) -> u32
+    ensures { λ r. ⌜ ServePromise
+        (record {
+          geometry = record { F = files; S = slots; N = blocks; B = «block_size» };
+          verifier = now (verifier .entry);
+          request = now (request .entry);
+          buffer = now (reply .entry);
+        })
+        (record { sizes = now (sizes .entry); words = now (words .entry); mem = now (mem .entry) })
+        r (now (counts .exit)) (now (reply .exit))
+        (record { sizes = now (sizes .exit); words = now (words .exit); mem = now (mem .exit) }) ⌝ }
+{
+    let g = geometry(files, slots, blocks, block_size);
+    let s = compound::serve(g, sizes, words, mem, verifier, request, reply);
+    *counts = [s.read as u64, s.written as u64];
+    s.number
+}

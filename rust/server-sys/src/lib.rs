@@ -1,7 +1,7 @@
 //! The proved server as safe Rust over slices.
 //!
 //! The calls take any arguments: what doesn't fit is refused by its number, and nothing is changed.
-//! So nothing is checked here. A thread that calls needs somewhat more than 512 KiB of stack.
+//! So nothing is checked here. A thread that calls needs 512 KiB of stack.
 
 /// Files F, slots per file S, blocks in the pool N, bytes per block B.
 #[derive(Clone, Copy, Debug, PartialEq, Eq)]

@@ -6,7 +6,7 @@ use mathlib.Core.Path.{_≡_, refl}
 use mathlib.Core.List.{List, [], _∷_, map}
 use Rattle.store.specs.Content.{tab}
 use Rattle.store.specs.Store.{emptyStore}
-use Rattle.frame.specs.Line.{lineBytes, hexLine, requestOf, frameGeometry, answerLine, answerLines}
+use Rattle.frame.specs.Line.{lineBytes, hexLine, requestOf, frameGeometry, answerRequest, answerLine, answerLines}
 use Rattle.compound.proofs.Script.{rules}
 
 -- a text's ASCII codes
@@ -28,5 +28,5 @@ linesOut =
     ∷ []
 
 pub frames-hold : answerLines (emptyStore frameGeometry) (map codes linesIn) ≡ map codes linesOut
-unfolding rules lineBytes hexLine requestOf answerLine answerLines
+unfolding rules lineBytes hexLine requestOf answerRequest answerLine answerLines
 frames-hold = refl

@@ -168,7 +168,7 @@ hex-drop : (bs : List ℕ) (i : ℕ) → i < length bs → hexLine (drop i bs) �
 unfolding hexLine
 hex-drop bs i h = rw (add-one i, drop-cons bs i 0)
 
-length-hex : (bs : List ℕ) → length (hexLine bs) ≡ 2 * length bs
+pub length-hex : (bs : List ℕ) → length (hexLine bs) ≡ 2 * length bs
 unfolding hexLine
 length-hex [] = refl
 length-hex (b ∷ bs) = omega (arith, length-hex bs)

@@ -1,14 +1,16 @@
 -- The program's lines (document 01, "A day's frames"; refusal 7). A line is a list of ASCII codes, without its newline.
 use Prim.Native.Nat.{ℕ, _+_, _-_, _*_, _/_, _%_}
+use mathlib.Core.Path.{_≡_}
 use mathlib.Core.Bool.{cond, _&&_}
 use mathlib.Core.Option.{Option, none, some}
-use mathlib.Core.List.{List, [], _∷_}
-use lib.ListN.{length, take, replicate}
+use mathlib.Core.List.{List, [], _∷_, _++_}
+use lib.ListN.{length, take, drop, replicate}
 use lib.Dec.{leb, ltb, eqb}
 use Rattle.xdr.specs.Encode.{concatMap}
 use Rattle.store.specs.Geometry.{Geometry}
 use Rattle.store.specs.Store.{Store}
-use Rattle.compound.specs.Serve.{Outcome, serve}
+use Rattle.compound.specs.Serve.{Outcome}
+use Rattle.compound.specs.Claim.{Call, answer}
 
 -- ---- hexadecimal: either letter case in, lower out
 
@@ -69,13 +71,30 @@ abbrev pub answered : Outcome → Answered
 answered o = record { line = cond (eqb (o .number) 0) (hexLine (take (o .written) (o .reply))) (refusalLine (o .number)); store = o .store }
 
 -- the verifier is zero; the reply buffer has 32,768 bytes
+abbrev pub frameCall : List ℕ → Call
+frameCall s = record { geometry = frameGeometry; verifier = replicate 8 0; request = s; buffer = replicate 32768 0 }
+
+unfoldable pub answerRequest : Store → List ℕ → Answered
+answerRequest st s = answered (answer (frameCall s) st)
+
 unfoldable pub answerLine : Store → List ℕ → Answered
-answerLine st l = elim (requestOf l) [
-  | none ↦ record { line = refusalLine 7; store = st }
-  | some s ↦ answered (serve frameGeometry (replicate 8 0) s (replicate 32768 0) st)
-]
+answerLine st l = elim (requestOf l) [ none ↦ record { line = refusalLine 7; store = st } | some s ↦ answerRequest st s ]
 
 -- one line out for each line in
 unfoldable pub answerLines : Store → List (List ℕ) → List (List ℕ)
 answerLines st [] = []
 answerLines st (l ∷ ls) = answerLine st l .line ∷ answerLines (answerLine st l .store) ls
+
+-- ---- the call
+
+-- an `out` of fewer than 65,536 bytes takes no line and serves nothing (house)
+unfoldable pub lineInto : List ℕ → Store → List ℕ → Answered
+lineInto out st l = cond (ltb (length out) 65536) (record { line = []; store = st }) (answerLine st l)
+
+-- The line wanted stands at the start of `out`, bytes past it unchanged; its length is answered, and the tables are the store wanted.
+pub record LinePromise (want : Answered) (out : List ℕ) (answer : ℕ) (after : List ℕ) (left : Store) : Type 0 where
+  pub length-is : answer ≡ length (want .line)
+  pub out-is : after ≡ want .line ++ drop (length (want .line)) out
+  pub sizes-are : left .sizes ≡ want .store .sizes
+  pub words-are : left .words ≡ want .store .words
+  pub mem-is : left .mem ≡ want .store .mem

@@ -1,0 +1,90 @@
+use mathlib.Core.Path.{sym}
+use native.Mathlib.Omega.{arith}
+use lib.Seq.{length-take-le}
+use Rattle.frame.proofs.LineLaws.{number-small, written-fits, digits-fit, request-refused, request-served}
+use borrow.Author.Needs.{needs}
+use Rattle.frame.proofs.line.serve_into.Statement.{statement}
+use Rattle.frame.proofs.line.serve_into.Tie as tie
+
+serve-frame-requires : tie.Need-serve-frame-requires
+serve-frame-requires c κs = search needs
+
+put-refusal-requires : tie.Need-put-refusal-requires
+put-refusal-requires c κs =
+    let k = c .before .before .before .before .before .before .before .before .before .before .before in
+    (number-small _ _ (k .serve-frame .ensures), omega (arith, k .before .before .before .before .before .before .before .before .before .before .before .pre .1))
+
+same-length : tie.Need-same-length
+same-length c = search needs
+
+same-length-2 : tie.Need-same-length-2
+same-length-2 c = search needs
+
+same-length-3 : tie.Need-same-length-3
+same-length-3 c = search needs
+
+same-length-4 : tie.Need-same-length-4
+same-length-4 c = search needs
+
+same-length-5 : tie.Need-same-length-5
+same-length-5 c = search needs
+
+returns : tie.Need-returns
+returns c =
+    let p = c .before .before in
+    let t = p .before .before in
+    request-refused _ _ (t .before .before .before .before .before .before .before .before .before .before .serve-frame .ensures) (t .if1 .taken) (p .put-refusal .ensures)
+
+slice-reshare-prefix-put-hex : tie.Need-slice-reshare-prefix-put-hex
+slice-reshare-prefix-put-hex c = written-fits _ _ (c .before .before .before .before .before .before .before .before .before .before .serve-frame .ensures)
+
+slice-aggregate-put-hex : tie.Need-slice-aggregate-put-hex
+slice-aggregate-put-hex c = sym (length-take-le _ _ (written-fits _ _ (c .before .before .before .before .before .before .before .before .before .before .before .serve-frame .ensures)))
+
+put-hex-requires : tie.Need-put-hex-requires
+put-hex-requires c κs =
+    let k = c .before .before .before .before .before .before .before .before .before .before .before .before in
+    digits-fit _ _ (k .serve-frame .ensures) (k .before .before .before .before .before .before .before .before .before .before .before .pre .1)
+
+same-length-6 : tie.Need-same-length-6
+same-length-6 c = search needs
+
+same-length-7 : tie.Need-same-length-7
+same-length-7 c = search needs
+
+same-length-8 : tie.Need-same-length-8
+same-length-8 c = search needs
+
+same-length-9 : tie.Need-same-length-9
+same-length-9 c = search needs
+
+same-length-10 : tie.Need-same-length-10
+same-length-10 c = search needs
+
+returns-2 : tie.Need-returns-2
+returns-2 c =
+    let p = c .before .before in
+    let t = p .before .before .before in
+    request-served _ _ (t .before .before .before .before .before .before .before .before .before .before .serve-frame .ensures) (t .if1 .left) (p .put-hex .ensures)
+
+pub serve-into-spec : {M : Type 1} → statement M
+serve-into-spec =
+    tie.close
+    (tie.spec
+    serve-frame-requires
+    put-refusal-requires
+    same-length
+    same-length-2
+    same-length-3
+    same-length-4
+    same-length-5
+    returns
+    slice-reshare-prefix-put-hex
+    slice-aggregate-put-hex
+    put-hex-requires
+    same-length-6
+    same-length-7
+    same-length-8
+    same-length-9
+    same-length-10
+    returns-2)

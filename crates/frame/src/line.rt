@@ -1,0 +1,151 @@
+// The call on one line: its digits read, the request served, the answer written as digits.
+ghost use mathlib.Core.Path.{_≡_};
+ghost use Prim.Native.Nat.{_≤_};
+ghost use lib.ListN.{length, replicate};
+ghost use Rattle.store.specs.Geometry.{geometryOf};
+ghost use Rattle.compound.specs.Claim.{Contract};
+ghost use Rattle.frame.specs.Line.{frameGeometry, frameCall, answerLine, answerRequest, lineInto, LinePromise};
+use crate::hex::Request;
+use crate::hex::put_hex;
+use crate::hex::put_refusal;
+use crate::hex::request_bytes;
+use compound::Served;
+use store::Geometry;
+
+// Room for every answer's line.
+pub const MIN_OUT: usize = 65536;
+
+// The store that the program's lines are served on.
+pub fn frame_geometry() -> Geometry
+    ensures { λ r. ⌜ geometryOf r ≡ frameGeometry ⌝ }
+{
+    Geometry {
+        files: 4,
+        slots: 16,
+        blocks: 32,
+        block_size: 512,
+    }
+}
+
+// Request s served, with a verifier of zeros. `reply` is the zeroed reply buffer.
+fn serve_frame(
+    sizes: &mut [u64],
+    words: &mut [u32],
+    mem: &mut [u8],
+    s: &[u8],
+    reply: &mut [u8],
+) -> Served
+    requires { ⌜ now reply ≡ replicate 32768 0 ⌝ }
+    ensures { λ r. ⌜ Contract (frameCall (now (s .entry)))
+        (record { sizes = now (sizes .entry); words = now (words .entry); mem = now (mem .entry) })
+        (record {
+          number = r .number;
+          read = r .read;
+          written = r .written;
+          reply = now (reply .exit);
+          store = record { sizes = now (sizes .exit); words = now (words .exit); mem = now (mem .exit) };
+        }) ⌝ }
+{
+    let verifier = [0u8; 8];
+    compound::serve(frame_geometry(), sizes, words, mem, &verifier, s, reply)
+}
+
+// The answer's line of request s.
+fn serve_into(
+    sizes: &mut [u64],
+    words: &mut [u32],
+    mem: &mut [u8],
+    s: &[u8],
+    reply: &mut [u8],
+    out: &mut [u8],
+) -> usize
+    requires { ⌜ (now reply ≡ replicate 32768 0) × (65536 ≤ length (now out)) ⌝ }
+    ensures { λ r. ⌜ LinePromise
+        (answerRequest (record { sizes = now (sizes .entry); words = now (words .entry); mem = now (mem .entry) }) (now (s .entry)))
+        (now (out .entry)) r (now (out .exit))
+        (record { sizes = now (sizes .exit); words = now (words .exit); mem = now (mem .exit) }) ⌝ }
+{
+    let r = serve_frame(sizes, words, mem, s, reply);
+    if r.number != 0 {
+        return put_refusal(r.number, out);
+    }
+    let n = r.written;
+    put_hex(&reply[..n], out)
+}
+
+// The same; it owns the reply buffer and only lends it.
+fn serve_request(
+    sizes: &mut [u64],
+    words: &mut [u32],
+    mem: &mut [u8],
+    s: &[u8],
+    out: &mut [u8],
+) -> usize
+    requires { ⌜ 65536 ≤ length (now out) ⌝ }
+    ensures { λ r. ⌜ LinePromise
+        (answerRequest (record { sizes = now (sizes .entry); words = now (words .entry); mem = now (mem .entry) }) (now (s .entry)))
+        (now (out .entry)) r (now (out .exit))
+        (record { sizes = now (sizes .exit); words = now (words .exit); mem = now (mem .exit) }) ⌝ }
+{
+    let mut reply = [0u8; 32768];
+    serve_into(sizes, words, mem, s, &mut reply, out)
+}
+
+// The answer of a line, whose bytes go into `request`.
+fn serve_digits(
+    sizes: &mut [u64],
+    words: &mut [u32],
+    mem: &mut [u8],
+    line: &[u8],
+    request: &mut [u8],
+    out: &mut [u8],
+) -> usize
+    requires { ⌜ (4096 ≤ length (now request)) × (65536 ≤ length (now out)) ⌝ }
+    ensures { λ r. ⌜ LinePromise
+        (answerLine (record { sizes = now (sizes .entry); words = now (words .entry); mem = now (mem .entry) }) (now (line .entry)))
+        (now (out .entry)) r (now (out .exit))
+        (record { sizes = now (sizes .exit); words = now (words .exit); mem = now (mem .exit) }) ⌝ }
+{
+    let Request::Bytes(n) = request_bytes(line, request) else {
+        return put_refusal(7, out);
+    };
+    serve_request(sizes, words, mem, &request[..n], out)
+}
+
+// The same; it owns the request buffer and only lends it.
+fn serve_fitting(
+    sizes: &mut [u64],
+    words: &mut [u32],
+    mem: &mut [u8],
+    line: &[u8],
+    out: &mut [u8],
+) -> usize
+    requires { ⌜ 65536 ≤ length (now out) ⌝ }
+    ensures { λ r. ⌜ LinePromise
+        (answerLine (record { sizes = now (sizes .entry); words = now (words .entry); mem = now (mem .entry) }) (now (line .entry)))
+        (now (out .entry)) r (now (out .exit))
+        (record { sizes = now (sizes .exit); words = now (words .exit); mem = now (mem .exit) }) ⌝ }
+{
+    let mut request = [0u8; 4096];
+    serve_digits(sizes, words, mem, line, &mut request, out)
+}
+
+// Serves the line on the lent store and writes its answer's line at the start of `out`. Answers that line's length, or 0
+// where `out` is too short to take one.
+pub fn serve_line(
+    sizes: &mut [u64],
+    words: &mut [u32],
+    mem: &mut [u8],
+    line: &[u8],
+    out: &mut [u8],
+) -> usize
+    ensures { λ r. ⌜ LinePromise
+        (lineInto (now (out .entry)) (record { sizes = now (sizes .entry); words = now (words .entry); mem = now (mem .entry) }) (now (line .entry)))
+        (now (out .entry)) r (now (out .exit))
+        (record { sizes = now (sizes .exit); words = now (words .exit); mem = now (mem .exit) }) ⌝ }
+{
+    if out.len() < MIN_OUT {
+        return 0;
+    }
+    serve_fitting(sizes, words, mem, line, out)
+}

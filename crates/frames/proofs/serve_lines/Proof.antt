@@ -1,0 +1,105 @@
+use Prim.Native.Nat.{_≤_, _-_}
+use mathlib.Core.Path.{_≡_}
+use lib.ListN.{length}
+use borrow.Author.Needs.{needs}
+use Rattle.frames.proofs.serve_lines.Statement.{statement}
+use Rattle.frames.proofs.serve_lines.Tie as tie
+
+abbrev Inv-loop : tie.InvT-loop
+Inv-loop sizes₀ words₀ mem₀ line₀ out₀ piece kept p₀ i₀ sizes words mem line out p i =
+    (length sizes ≡ length sizes₀) × ((length words ≡ length words₀) × ((length mem ≡ length mem₀) × ((length line ≡ length line₀) × ((length out ≡ length out₀)
+    × ((p .kept ≤ length line) × (p .held ≤ 65536))))))
+
+abbrev μ-loop : tie.MeasureT-loop
+μ-loop sizes₀ words₀ mem₀ line₀ out₀ piece kept p₀ i₀ sizes words mem line out p i = length piece - i
+
+loop-holds : tie.Need-loop-holds Inv-loop μ-loop
+loop-holds c = search needs
+
+find-requires : tie.Need-find-requires Inv-loop μ-loop
+find-requires c κs = search needs
+
+sub-serve-part : tie.Need-sub-serve-part Inv-loop μ-loop
+sub-serve-part c = search needs
+
+part-serve-part-start : tie.Need-part-serve-part-start Inv-loop μ-loop
+part-serve-part-start c = search needs
+
+part-serve-part-end : tie.Need-part-serve-part-end Inv-loop μ-loop
+part-serve-part-end c = search needs
+
+serve-part-requires : tie.Need-serve-part-requires Inv-loop μ-loop
+serve-part-requires c κs = search needs
+
+add-i : tie.Need-add-i Inv-loop μ-loop
+add-i c = search needs
+
+loop-less : tie.Need-loop-less Inv-loop μ-loop
+loop-less c = search needs
+
+loop-again : tie.Need-loop-again Inv-loop μ-loop
+loop-again c = search needs
+
+same-length : tie.Need-same-length Inv-loop μ-loop
+same-length c = search needs
+
+same-length-2 : tie.Need-same-length-2 Inv-loop μ-loop
+same-length-2 c = search needs
+
+same-length-3 : tie.Need-same-length-3 Inv-loop μ-loop
+same-length-3 c = search needs
+
+same-length-4 : tie.Need-same-length-4 Inv-loop μ-loop
+same-length-4 c = search needs
+
+same-length-5 : tie.Need-same-length-5 Inv-loop μ-loop
+same-length-5 c = search needs
+
+returns : tie.Need-returns Inv-loop μ-loop
+returns c = search needs
+
+same-length-6 : tie.Need-same-length-6 Inv-loop μ-loop
+same-length-6 c = search needs
+
+same-length-7 : tie.Need-same-length-7 Inv-loop μ-loop
+same-length-7 c = search needs
+
+same-length-8 : tie.Need-same-length-8 Inv-loop μ-loop
+same-length-8 c = search needs
+
+same-length-9 : tie.Need-same-length-9 Inv-loop μ-loop
+same-length-9 c = search needs
+
+same-length-10 : tie.Need-same-length-10 Inv-loop μ-loop
+same-length-10 c = search needs
+
+returns-2 : tie.Need-returns-2 Inv-loop μ-loop
+returns-2 c = search needs
+
+pub serve-lines-spec : {M : Type 1} → statement M
+serve-lines-spec =
+    tie.close
+    (tie.spec
+    Inv-loop
+    μ-loop
+    loop-holds
+    find-requires
+    sub-serve-part
+    part-serve-part-start
+    part-serve-part-end
+    serve-part-requires
+    add-i
+    loop-less
+    loop-again
+    same-length
+    same-length-2
+    same-length-3
+    same-length-4
+    same-length-5
+    returns
+    same-length-6
+    same-length-7
+    same-length-8
+    same-length-9
+    same-length-10
+    returns-2)

@@ -1,10 +1,13 @@
 // Reads lines of hexadecimal, one frame a line, and writes the answer of each, in order (document 01, "A day's frames").
+// The answers are written when what was read is served, so that whoever waits for one has it.
+ghost use mathlib.Core.Path.{_≡_};
 ghost use Prim.Native.Nat.{_≤_};
 ghost use lib.ListN.{length};
 use libc::STDIN_FILENO;
 use libc::STDOUT_FILENO;
 
-// The bytes kept of a line whose end is not read yet, the bytes of answers that are not written yet, and whether to go on.
+// How many bytes are kept of a line whose end is not read yet, how many of answers that are not written yet, and whether
+// to go on.
 struct Progress {
     kept: usize,
     held: usize,
@@ -12,11 +15,8 @@ struct Progress {
 }
 
 impl Progress {
-    // So many bytes of answers may be held before a line is served: the buffer has twice as many, and a line's answer fits in the rest.
-    const MAX_HELD: usize = 65536;
-
     fn done() -> Progress
-        ensures { λ r. ⌜ r .kept ≤ 0 ⌝ }
+        ensures { λ r. ⌜ r .kept ≡ 0 ⌝ }
     {
         Progress {
             kept: 0,
@@ -45,7 +45,7 @@ fn keep(line: &mut [u8], kept: usize, part: &[u8]) -> usize
 // Writes the answers held.
 fn flush(out: &[u8], p: Progress) -> Progress
     requires { ⌜ p .held ≤ length (now out) ⌝ }
-    ensures { λ r. ⌜ (r .kept ≤ p .kept) × (r .held ≤ 0) ⌝ }
+    ensures { λ r. ⌜ (r .kept ≡ p .kept) × (r .held ≡ 0) ⌝ }
 {
     let n = p.held;
     let written = io::write_all(STDOUT_FILENO, &out[..n]);
@@ -75,7 +75,7 @@ fn answer(
     n + 1
 }
 
-// Serves the line that is kept.
+// Serves the line that is kept. `out` has room for the longest line twice, and at most half of it stays held.
 fn serve_kept(
     sizes: &mut [u64],
     words: &mut [u32],
@@ -85,7 +85,7 @@ fn serve_kept(
     p: Progress,
 ) -> Progress
     requires { ⌜ (p .kept ≤ length (now line)) × ((p .held ≤ 65536) × (131072 ≤ length (now out))) ⌝ }
-    ensures { λ r. ⌜ (r .kept ≤ 0) × (r .held ≤ 65536) ⌝ }
+    ensures { λ r. ⌜ (r .kept ≡ 0) × (r .held ≤ 65536) ⌝ }
 {
     let kept = p.kept;
     let at = p.held;
@@ -95,7 +95,7 @@ fn serve_kept(
         held,
         going: true,
     };
-    if Progress::MAX_HELD < held {
+    if frame::MIN_OUT < held {
         return flush(out, q);
     }
     q
@@ -192,7 +192,7 @@ fn serve_last(
     kept: usize,
 ) -> Progress
     requires { ⌜ (kept ≤ length (now line)) × (131072 ≤ length (now out)) ⌝ }
-    ensures { λ r. ⌜ r .kept ≤ 0 ⌝ }
+    ensures { λ r. ⌜ r .kept ≡ 0 ⌝ }
 {
     if kept == 0 {
         return Progress::done();
@@ -232,7 +232,8 @@ fn serve_some(
     serve_piece(sizes, words, mem, line, out, &input[..n], kept)
 }
 
-// A proved loop has to end, and nothing says that the input does: the turns are counted down from a number that no run uses up.
+// A proved loop has to end, and nothing says that the input does: the turns are counted down from a number that no run
+// uses up.
 fn serve_all(
     sizes: &mut [u64],
     words: &mut [u32],
@@ -255,7 +256,8 @@ fn serve_all(
     }
 }
 
-// The store is empty: its tables are zero. A line of more than 8,192 digits is refused whatever they are, so one byte more is kept of it.
+// The store is empty: its tables are zero. More than 8,192 digits are refused whatever they are, so of a line at most
+// 8,193 bytes are kept.
 fn main() {
     let mut sizes = [0u64; 4];
     let mut words = [0u32; 64];

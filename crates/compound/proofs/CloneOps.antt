@@ -11,29 +11,29 @@ use lib.ListN.{length, getD}
 use lib.Dec.{leb, ltb, eqb}
 use Rattle.xdr.specs.Bytes.{partOf, Written}
 use Rattle.xdr.specs.Encode.{u32}
-use Rattle.store.specs.Geometry.{Geometry}
-use Rattle.store.specs.Store.{Store}
+use Rattle.rules.specs.Geometry.{Geometry}
+use Rattle.rules.specs.Store.{Store}
 use Rattle.store.specs.Tables.{Shaped}
-use Rattle.store.specs.Calls.{first}
+use Rattle.rules.specs.Calls.{first}
 use Rattle.store.specs.Plan.{Counted}
 use Rattle.store.specs.Edits.{EditKnown, EditPromise, CopyKnown, CloneKnown}
-use Rattle.store.specs.Clone.{editClone, overlap, uneven}
-use Rattle.store.specs.Copy.{sourceCount, editCopy}
-use Rattle.store.proofs.GeometryLaws.{good, block-pos, lengths}
-use Rattle.store.proofs.SoundLaws.{sound-facts}
-use Rattle.store.proofs.BoolLaws.{or-inl, or-inr}
-use Rattle.store.proofs.FirstLaws.{all-clear}
+use Rattle.rules.specs.Clone.{editClone, overlap, uneven}
+use Rattle.rules.specs.Copy.{sourceCount, editCopy}
+use Rattle.rules.proofs.GeometryLaws.{good, block-pos, lengths}
+use Rattle.rules.proofs.SoundLaws.{sound-facts}
+use Rattle.rules.proofs.BoolLaws.{or-inl, or-inr}
+use Rattle.rules.proofs.FirstLaws.{all-clear}
 use Rattle.compound.specs.declared.answer.Handle.{Handle}
 use Rattle.compound.specs.declared.answer.Answer.{Answer}
 use Rattle.compound.specs.declared.operation.CloneArgs.{CloneArgs}
 use Rattle.compound.specs.declared.operation.CopyArgs.{CopyArgs}
 use Rattle.compound.specs.declared.operation.Operation.{Operation}
-use Rattle.compound.specs.Status.{INVAL, FBIG, NOSPC, NOFILEHANDLE, BAD-STATEID}
-use Rattle.compound.specs.Operation.{Op, opNumber}
+use Rattle.rules.specs.Status.{INVAL, FBIG, NOSPC, NOFILEHANDLE, BAD-STATEID}
+use Rattle.rules.specs.Operation.{Op, opNumber}
 use Rattle.compound.specs.Decoded.{meaning}
-use Rattle.compound.specs.Run.{State, noFile, readStateid, zeroStateid, errors, effect, copyResult, fileSync, body, perform}
+use Rattle.rules.specs.Run.{State, noFile, readStateid, zeroStateid, errors, effect, copyResult, fileSync, body, perform}
 use Rattle.compound.specs.Runner.{fileIn, Done, Bare, Answered}
-use Rattle.compound.proofs.StepLaws.{Ready, source-fits, clone-tests}
+use Rattle.rules.proofs.StepLaws.{Ready, source-fits, clone-tests}
 use Rattle.compound.proofs.RunLaws.{edit-failed, edit-full, edit-done, failed-answer, plain-answer, body-answer}
 
 -- ---- the first error

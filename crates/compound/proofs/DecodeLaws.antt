@@ -13,8 +13,8 @@ use Rattle.xdr.specs.Decode.{Parsed, got, fault, stop, Reader, number, upTo, fi
 use Rattle.xdr.specs.Answers.{ofBytes}
 use Rattle.xdr.specs.Layout.{Layout, boolean, _then_}
 use Rattle.compound.specs.declared.decode.CloneAnswer.{CloneAnswer}
-use Rattle.compound.specs.Status.{NOTSUPP, BADXDR, OP-ILLEGAL, SEQUENCE-POS}
-use Rattle.compound.specs.Operation.{Op, COPY, op, bad, argsOf, argsItem, reading, readingCopy, five, copyArgs, numberItem, unserved, itemAt, header, headerLayout}
+use Rattle.rules.specs.Status.{NOTSUPP, BADXDR, OP-ILLEGAL, SEQUENCE-POS}
+use Rattle.rules.specs.Operation.{Op, COPY, op, bad, argsOf, argsItem, reading, readingCopy, five, copyArgs, numberItem, unserved, itemAt, header, headerLayout}
 use Rattle.compound.specs.Decoded.{ofHandle, ofCloneArgs, cloneStop}
 
 -- ---- one field

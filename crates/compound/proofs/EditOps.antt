@@ -12,20 +12,20 @@ use lib.Dec.{ltb}
 use Rattle.xdr.specs.declared.bytes.Span.{Span}
 use Rattle.xdr.specs.Bytes.{partOf, Written}
 use Rattle.xdr.specs.Encode.{u32}
-use Rattle.store.specs.Geometry.{Geometry}
-use Rattle.store.specs.Store.{Store}
-use Rattle.store.specs.Calls.{first}
-use Rattle.store.specs.Write.{editWrite}
-use Rattle.store.specs.Allocate.{editAllocate}
-use Rattle.store.specs.Deallocate.{editDeallocate}
+use Rattle.rules.specs.Geometry.{Geometry}
+use Rattle.rules.specs.Store.{Store}
+use Rattle.rules.specs.Calls.{first}
+use Rattle.rules.specs.Write.{editWrite}
+use Rattle.rules.specs.Allocate.{editAllocate}
+use Rattle.rules.specs.Deallocate.{editDeallocate}
 use Rattle.store.specs.Edits.{EditKnown, WriteKnown, RegionKnown}
-use Rattle.store.proofs.FirstLaws.{all-clear}
-use Rattle.store.proofs.GeometryLaws.{good, lengths}
+use Rattle.rules.proofs.FirstLaws.{all-clear}
+use Rattle.rules.proofs.GeometryLaws.{good, lengths}
 use Rattle.compound.specs.declared.answer.Handle.{Handle}
 use Rattle.compound.specs.declared.answer.Answer.{Answer}
-use Rattle.compound.specs.Status.{NOFILEHANDLE}
-use Rattle.compound.specs.Operation.{Op, WRITE, ALLOCATE, DEALLOCATE, opNumber}
-use Rattle.compound.specs.Run.{State, Event, noFile, errors, effect, body, writeResult, fileSync, perform}
+use Rattle.rules.specs.Status.{NOFILEHANDLE}
+use Rattle.rules.specs.Operation.{Op, WRITE, ALLOCATE, DEALLOCATE, opNumber}
+use Rattle.rules.specs.Run.{State, Event, noFile, errors, effect, body, writeResult, fileSync, perform}
 use Rattle.compound.specs.Runner.{fileIn, stateOf, Runs, Done, Bare, Answered}
 use Rattle.compound.proofs.RunLaws.{edit-failed, failed-answer, plain-answer, body-answer}
 

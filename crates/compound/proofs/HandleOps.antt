@@ -14,22 +14,22 @@ use Rattle.xdr.specs.Decode.{Parsed, got, fault, value, number}
 use Rattle.xdr.specs.Encode.{be, u32, opaque}
 use Rattle.xdr.proofs.BytesLaws.{written-then}
 use Rattle.xdr.proofs.DecodeLaws.{number-there}
-use Rattle.store.specs.Geometry.{Geometry}
-use Rattle.store.specs.Store.{Store}
-use Rattle.store.specs.Blocks.{need}
-use Rattle.store.specs.Calls.{first}
+use Rattle.rules.specs.Geometry.{Geometry}
+use Rattle.rules.specs.Store.{Store}
+use Rattle.rules.specs.Blocks.{need}
+use Rattle.rules.specs.Calls.{first}
 use Rattle.store.specs.Plan.{Counted}
-use Rattle.store.proofs.GeometryLaws.{good, block-pos}
-use Rattle.store.proofs.SoundLaws.{sound-facts}
+use Rattle.rules.proofs.GeometryLaws.{good, block-pos}
+use Rattle.rules.proofs.SoundLaws.{sound-facts}
 use Rattle.compound.specs.declared.answer.Handle.{Handle}
 use Rattle.compound.specs.declared.answer.Answer.{Answer}
 use Rattle.compound.specs.declared.operation.Operation.{Operation}
 use Rattle.compound.specs.declared.run.Progress.{Progress}
-use Rattle.compound.specs.Status.{STALE, BADHANDLE, NOFILEHANDLE}
-use Rattle.compound.specs.Operation.{Op, GETFH, PUTFH, Item, op, bad, opNumber, itemAt}
+use Rattle.rules.specs.Status.{STALE, BADHANDLE, NOFILEHANDLE}
+use Rattle.rules.specs.Operation.{Op, GETFH, PUTFH, Item, op, bad, opNumber, itemAt}
 use Rattle.compound.specs.Decoded.{meaning}
-use Rattle.compound.specs.Run.{State, noFile, fileOf, failed, errors, effect, body, perform}
-use Rattle.compound.specs.Serve.{placeAfter}
+use Rattle.rules.specs.Run.{State, noFile, fileOf, failed, errors, effect, body, perform}
+use Rattle.rules.specs.Serve.{placeAfter}
 use Rattle.compound.specs.Runner.{fileIn, stateOf, Known, Done, Bare, Answered, eventAt, Turned}
 use Rattle.compound.proofs.RunLaws.{perform-failed, perform-done, perform-item, bare-written, body-answer}
 

@@ -13,14 +13,14 @@ use lib.Dec.{leb, ltb, eqb}
 use Rattle.xdr.specs.Bytes.{Written}
 use Rattle.xdr.specs.Encode.{u32}
 use Rattle.xdr.proofs.BytesLaws.{length-splice, written-then}
-use Rattle.store.specs.Geometry.{Geometry}
-use Rattle.store.specs.Store.{Store}
+use Rattle.rules.specs.Geometry.{Geometry}
+use Rattle.rules.specs.Store.{Store}
 use Rattle.store.specs.Plan.{Counted}
-use Rattle.store.specs.Clone.{overlap, uneven}
-use Rattle.store.proofs.BoolLaws.{and-both}
+use Rattle.rules.specs.Clone.{overlap, uneven}
+use Rattle.rules.proofs.BoolLaws.{and-both}
 use Rattle.compound.specs.declared.run.Progress.{Progress}
-use Rattle.compound.specs.Operation.{bad}
-use Rattle.compound.specs.Run.{sameBytes, zeroStateid, readStateid, failed}
+use Rattle.rules.specs.Operation.{bad}
+use Rattle.rules.specs.Run.{sameBytes, zeroStateid, readStateid, failed}
 use Rattle.compound.specs.Runner.{fileIn, stateOf, Turned}
 use Rattle.compound.proofs.RunLaws.{bare-written}
 

@@ -12,24 +12,24 @@ use Rattle.xdr.specs.Bytes.{splice, Written}
 use Rattle.xdr.specs.Encode.{u32, concatMap}
 use Rattle.xdr.proofs.BytesLaws.{length-splice, written-then}
 use Rattle.xdr.proofs.EncodeLaws.{length-u32}
-use Rattle.store.specs.Geometry.{Geometry, goodGeometry}
-use Rattle.store.specs.Store.{Store, goodLengths}
-use Rattle.store.specs.Sound.{sound}
+use Rattle.rules.specs.Geometry.{Geometry, goodGeometry}
+use Rattle.rules.specs.Store.{Store, goodLengths}
+use Rattle.rules.specs.Sound.{sound}
 use Rattle.store.specs.Tables.{Shaped}
 use Rattle.store.specs.Plan.{Counted}
-use Rattle.store.proofs.FileLaws.{Sound}
-use Rattle.store.proofs.GeometryLaws.{good, block-pos}
-use Rattle.store.proofs.SoundLaws.{sound-facts, lengths-test, sound-test}
+use Rattle.rules.proofs.FileLaws.{Sound}
+use Rattle.rules.proofs.GeometryLaws.{good, block-pos}
+use Rattle.rules.proofs.SoundLaws.{sound-facts, lengths-test, sound-test}
 use Rattle.compound.specs.declared.answer.Handle.{Handle}
 use Rattle.compound.specs.declared.run.Progress.{Progress}
-use Rattle.compound.specs.Operation.{Op, Item, op, bad, itemAt, items}
-use Rattle.compound.specs.Run.{State, Event, failed, perform, reached}
-use Rattle.compound.specs.Serve.{resultBytes, placeAfter, lastPlace, lastOf, lastStatus, lastStore, fresh}
+use Rattle.rules.specs.Operation.{Op, Item, op, bad, itemAt, items}
+use Rattle.rules.specs.Run.{State, Event, failed, perform, reached}
+use Rattle.rules.specs.Serve.{resultBytes, placeAfter, lastPlace, lastOf, lastStatus, lastStore, fresh}
 use Rattle.compound.specs.Runner.{fileIn, stateOf, Known, Runs, Done, eventAt, Turned, RunsAll, RanAll}
-use Rattle.compound.proofs.StepLaws.{Ready, effect-ready, Performed, refused, nospc, done, performed}
+use Rattle.rules.proofs.StepLaws.{Ready, effect-ready, Performed, refused, nospc, done, performed}
 use Rattle.compound.proofs.RunLaws.{perform-item}
-use Rattle.compound.proofs.ReplyLaws.{result-most}
-use Rattle.compound.proofs.ReplyReads.{BadFits, item-fits}
+use Rattle.rules.proofs.ReplyLaws.{result-most}
+use Rattle.rules.proofs.ReplyReads.{BadFits, item-fits}
 
 -- ---- what stays known
 

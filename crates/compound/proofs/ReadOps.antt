@@ -13,27 +13,27 @@ use Rattle.xdr.specs.Bytes.{splice, Written}
 use Rattle.xdr.specs.Encode.{u32, u64, bool, opaque, opaqueSize, concatMap}
 use Rattle.xdr.proofs.BytesLaws.{length-splice, written-then}
 use Rattle.xdr.proofs.EncodeLaws.{length-u32, length-bool}
-use Rattle.store.specs.Geometry.{Geometry}
-use Rattle.store.specs.Store.{Store, sizeOf}
-use Rattle.store.specs.Calls.{first}
-use Rattle.store.specs.Content.{bytesFrom}
+use Rattle.rules.specs.Geometry.{Geometry}
+use Rattle.rules.specs.Store.{Store, sizeOf}
+use Rattle.rules.specs.Calls.{first}
+use Rattle.rules.specs.Content.{bytesFrom}
 use Rattle.store.specs.Plan.{Counted}
-use Rattle.store.specs.Read.{granted, pieceBytes, piecesSize, readPieces}
+use Rattle.rules.specs.Read.{granted, pieceBytes, piecesSize, readPieces}
 use Rattle.store.specs.ReadCode.{Placed, Readable, PiecesFit, PiecesPut, piecesTo}
-use Rattle.store.specs.Seek.{seekPlace}
-use Rattle.store.specs.Sound.{sound}
+use Rattle.rules.specs.Seek.{seekPlace}
+use Rattle.rules.specs.Sound.{sound}
 use Rattle.store.specs.Tables.{Shaped}
-use Rattle.store.proofs.FileLaws.{Sound}
-use Rattle.store.proofs.GeometryLaws.{Good, good, lengths}
+use Rattle.rules.proofs.FileLaws.{Sound}
+use Rattle.rules.proofs.GeometryLaws.{Good, good, lengths}
 use Rattle.store.proofs.ScanLaws.{length-pieces}
-use Rattle.store.proofs.SoundLaws.{sound-facts}
+use Rattle.rules.proofs.SoundLaws.{sound-facts}
 use Rattle.compound.specs.declared.answer.Handle.{Handle}
 use Rattle.compound.specs.declared.answer.Answer.{Answer}
-use Rattle.compound.specs.Status.{NXIO, NOFILEHANDLE, BAD-STATEID, UNION-NOTSUPP}
-use Rattle.compound.specs.Operation.{Op, READ, READ-PLUS, SEEK, opNumber}
-use Rattle.compound.specs.Run.{State, noFile, fileOf, readStateid, errors, effect, body, readReply, readPlusReply, seekReply, perform}
+use Rattle.rules.specs.Status.{NXIO, NOFILEHANDLE, BAD-STATEID, UNION-NOTSUPP}
+use Rattle.rules.specs.Operation.{Op, READ, READ-PLUS, SEEK, opNumber}
+use Rattle.rules.specs.Run.{State, noFile, fileOf, readStateid, errors, effect, body, readReply, readPlusReply, seekReply, perform}
 use Rattle.compound.specs.Runner.{fileIn, Known, Shows, Done, Bare, Answered}
-use Rattle.compound.proofs.ReplyLaws.{read-plus-most}
+use Rattle.rules.proofs.ReplyLaws.{read-plus-most}
 use Rattle.compound.proofs.RunLaws.{perform-done, edit-failed, failed-answer, body-answer}
 use Rattle.compound.proofs.SpliceLaws.{written-before}
 

@@ -12,20 +12,20 @@ use lib.Dec.{leb, ltb}
 use Rattle.xdr.specs.Bytes.{splice, Written}
 use Rattle.xdr.specs.Encode.{u32}
 use Rattle.xdr.proofs.BytesLaws.{written-then}
-use Rattle.store.specs.Geometry.{Geometry}
-use Rattle.store.specs.Store.{Store}
-use Rattle.store.specs.Blocks.{need}
-use Rattle.store.specs.Calls.{first}
+use Rattle.rules.specs.Geometry.{Geometry}
+use Rattle.rules.specs.Store.{Store}
+use Rattle.rules.specs.Blocks.{need}
+use Rattle.rules.specs.Calls.{first}
 use Rattle.store.specs.Plan.{Counted}
 use Rattle.store.specs.Edits.{EditKnown, EditPromise, judged}
 use Rattle.compound.specs.declared.answer.Handle.{Handle}
 use Rattle.compound.specs.declared.answer.Answer.{Answer}
-use Rattle.compound.specs.Status.{NOSPC}
-use Rattle.compound.specs.Operation.{Op, op, opNumber}
-use Rattle.compound.specs.Run.{State, Event, failed, errors, effect, body, perform}
-use Rattle.compound.specs.Serve.{itemNumber, resultBytes}
+use Rattle.rules.specs.Status.{NOSPC}
+use Rattle.rules.specs.Operation.{Op, op, opNumber}
+use Rattle.rules.specs.Run.{State, Event, failed, errors, effect, body, perform}
+use Rattle.rules.specs.Serve.{itemNumber, resultBytes}
 use Rattle.compound.specs.Runner.{fileIn, Known, Runs, Done, Bare, Answered}
-use Rattle.compound.proofs.StepLaws.{Performed, refused, nospc, done, performed}
+use Rattle.rules.proofs.StepLaws.{Performed, refused, nospc, done, performed}
 
 -- ---- the rules' event
 

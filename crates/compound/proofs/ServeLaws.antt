@@ -13,26 +13,26 @@ use Rattle.xdr.specs.declared.bytes.Span.{Span}
 use Rattle.xdr.specs.Bytes.{partOf, splice, Written}
 use Rattle.xdr.specs.Encode.{u32, opaque, opaqueSize, padBytes, concatMap}
 use Rattle.xdr.specs.Decode.{got, fault}
-use Rattle.store.specs.Geometry.{Geometry, goodGeometry}
-use Rattle.store.specs.Store.{Store, goodLengths}
-use Rattle.store.specs.Sound.{sound}
+use Rattle.rules.specs.Geometry.{Geometry, goodGeometry}
+use Rattle.rules.specs.Store.{Store, goodLengths}
+use Rattle.rules.specs.Sound.{sound}
 use Rattle.store.specs.Tables.{Shaped, Tallied}
-use Rattle.store.specs.Calls.{first, storeRefusal}
+use Rattle.rules.specs.Calls.{first, storeRefusal}
 use Rattle.store.specs.Survey.{TableReady, Surveyed}
-use Rattle.store.proofs.GeometryLaws.{good, block-pos}
-use Rattle.store.proofs.SoundLaws.{sound-facts}
+use Rattle.rules.proofs.GeometryLaws.{good, block-pos}
+use Rattle.rules.proofs.SoundLaws.{sound-facts}
 use Rattle.store.proofs.EditLaws.{sound-counted}
-use Rattle.store.proofs.FirstLaws.{all-clear}
+use Rattle.rules.proofs.FirstLaws.{all-clear}
 use Rattle.compound.specs.declared.serving.Served.{Served}
 use Rattle.compound.specs.declared.run.Progress.{Progress}
-use Rattle.compound.specs.Status.{MINOR-VERS-MISMATCH, TOO-MANY-OPS}
-use Rattle.compound.specs.Operation.{items, Header, header}
-use Rattle.compound.specs.Run.{Event, reached}
-use Rattle.compound.specs.Serve.{resultBytes, replyBytes, lastStatus, fresh, headerStatus, compound, Outcome, Gives, refuse, served, refusals, refusal, serve}
-use Rattle.compound.specs.Claim.{Call, answer, Contract}
+use Rattle.rules.specs.Status.{MINOR-VERS-MISMATCH, TOO-MANY-OPS}
+use Rattle.rules.specs.Operation.{items, Header, header}
+use Rattle.rules.specs.Run.{Event, reached}
+use Rattle.rules.specs.Serve.{resultBytes, replyBytes, lastStatus, fresh, headerStatus, compound, Outcome, Gives, refuse, served, refusals, refusal, serve}
+use Rattle.rules.specs.Claim.{Call, answer, Contract}
 use Rattle.compound.specs.Runner.{Serves, RunsAll, RanAll, headerOf}
 use Rattle.compound.proofs.SpliceLaws.{written-before}
-use Rattle.compound.proofs.ReplyLaws.{header-reads, results-most}
+use Rattle.rules.proofs.ReplyLaws.{header-reads, results-most}
 
 -- ---- the reply
 

@@ -16,7 +16,7 @@ use Rattle.compound.specs.declared.decode.RegionAnswer.{RegionAnswer}
 use Rattle.compound.specs.declared.decode.CloneAnswer.{CloneAnswer}
 use Rattle.compound.specs.declared.decode.CopyAnswer.{CopyAnswer}
 use Rattle.compound.specs.declared.decode.HeaderRead.{HeaderRead}
-use Rattle.compound.specs.Operation.{Op, GETFH, RESTOREFH, SAVEFH, PUTFH, READ, READ-PLUS, WRITE, ALLOCATE, DEALLOCATE, SEEK, COPY, CLONE, Item, op, bad, Header}
+use Rattle.rules.specs.Operation.{Op, GETFH, RESTOREFH, SAVEFH, PUTFH, READ, READ-PLUS, WRITE, ALLOCATE, DEALLOCATE, SEEK, COPY, CLONE, Item, op, bad, Header}
 
 -- ---- arguments, in the order of their layouts
 

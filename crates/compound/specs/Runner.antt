@@ -8,17 +8,17 @@ use lib.ListN.{length}
 use Rattle.xdr.specs.declared.bytes.Span.{Span}
 use Rattle.xdr.specs.Bytes.{partOf, Written}
 use Rattle.xdr.specs.Encode.{u32, concatMap}
-use Rattle.store.specs.Geometry.{Geometry}
-use Rattle.store.specs.Store.{Store}
-use Rattle.store.specs.Sound.{sound}
+use Rattle.rules.specs.Geometry.{Geometry}
+use Rattle.rules.specs.Store.{Store}
+use Rattle.rules.specs.Sound.{sound}
 use Rattle.store.specs.Tables.{Shaped}
 use Rattle.store.specs.Plan.{Counted}
 use Rattle.compound.specs.declared.answer.Handle.{Handle}
 use Rattle.compound.specs.declared.answer.Answer.{Answer}
 use Rattle.compound.specs.declared.run.Progress.{Progress}
-use Rattle.compound.specs.Operation.{op, bad, itemAt, Header}
-use Rattle.compound.specs.Run.{State, Event, failed, perform}
-use Rattle.compound.specs.Serve.{resultBytes, placeAfter, lastPlace, lastStatus, lastStore}
+use Rattle.rules.specs.Operation.{op, bad, itemAt, Header}
+use Rattle.rules.specs.Run.{State, Event, failed, perform}
+use Rattle.rules.specs.Serve.{resultBytes, placeAfter, lastPlace, lastStatus, lastStore}
 
 -- ---- the state
 

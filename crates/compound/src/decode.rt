@@ -1,7 +1,7 @@
 // Readers of a request: the arguments of each layout, an operation, the header. Each asks nothing of the place it is given.
 ghost use mathlib.Core.Path.{_≡_};
 ghost use Rattle.xdr.specs.Decode.{got};
-ghost use Rattle.compound.specs.Operation.{handleArgs, readArgs, writeArgs, regionArgs, cloneArgs, copyArgs, unserved, numberItem, itemAt, header};
+ghost use Rattle.rules.specs.Operation.{handleArgs, readArgs, writeArgs, regionArgs, cloneArgs, copyArgs, unserved, numberItem, itemAt, header};
 ghost use Rattle.compound.specs.Decoded.{ofHandle, ofReadArgs, ofWriteArgs, ofRegionArgs, ofCloneArgs, cloneStop, ofCopyArgs, ofHeader, itemOf, Always};
 use crate::operation::CloneArgs;
 use crate::operation::CopyArgs;

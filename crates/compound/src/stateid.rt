@@ -1,7 +1,7 @@
 // Stateids: two special ones pass, and no other.
 ghost use mathlib.Core.Path.{_≡_};
 ghost use Rattle.xdr.specs.Bytes.{partOf};
-ghost use Rattle.compound.specs.Run.{sameBytes, zeroStateid, readStateid};
+ghost use Rattle.rules.specs.Run.{sameBytes, zeroStateid, readStateid};
 use xdr::Span;
 
 const ZEROS: [u8; 16] = [0; 16];

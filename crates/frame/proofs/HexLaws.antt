@@ -13,9 +13,9 @@ use lib.Dec.{leb}
 use borrow.Author.Tests.{le-leb, lt-leb, leb-true, lt-ltb, le-ltb}
 use Rattle.xdr.specs.Bytes.{splice, Written}
 use Rattle.xdr.proofs.BytesLaws.{splice-splice}
-use Rattle.store.proofs.BoolLaws.{and-right}
+use Rattle.rules.proofs.BoolLaws.{and-right}
 use Rattle.frame.specs.declared.hex.Request.{Request}
-use Rattle.frame.specs.Line.{digitValue, byteOf, byteFront, lineBytes, byteDigits, hexLine, requestOf}
+use Rattle.rules.specs.Line.{digitValue, byteOf, byteFront, lineBytes, byteDigits, hexLine, requestOf}
 use Rattle.frame.specs.Hex.{RequestRead}
 
 -- ---- the value of a digit

@@ -1,3 +1,2 @@
 pub mod HexLaws
 pub mod LineLaws
-pub mod Frames

@@ -12,15 +12,16 @@ use lib.Seq.{length-take-le}
 use lib.Dec.{ltb, eqb}
 use borrow.Author.Tests.{lt-ltb, le-ltb, eq-eqb, ne-eqb}
 use Rattle.xdr.specs.Bytes.{splice, Written}
-use Rattle.store.specs.Geometry.{Geometry}
-use Rattle.store.specs.Store.{Store}
-use Rattle.compound.specs.Serve.{Outcome}
-use Rattle.compound.specs.Claim.{Call, answer, Contract}
-use Rattle.compound.proofs.AnswerLaws.{refused-number}
-use Rattle.compound.proofs.ReplyReads.{reply-bound, reply-length}
+use Rattle.rules.specs.Geometry.{Geometry}
+use Rattle.rules.specs.Store.{Store}
+use Rattle.rules.specs.Serve.{Outcome}
+use Rattle.rules.specs.Claim.{Call, answer, Contract}
+use Rattle.rules.proofs.AnswerLaws.{refused-number}
+use Rattle.rules.proofs.ReplyReads.{reply-bound, reply-length}
 use Rattle.frame.specs.declared.hex.Request.{Request}
 use Rattle.frame.specs.Hex.{ofRequest, RequestRead}
-use Rattle.frame.specs.Line.{hexLine, requestOf, frameGeometry, frameCall, refusalLine, answerRequest, answerLine, lineInto, LinePromise}
+use Rattle.rules.specs.Line.{hexLine, requestOf, frameGeometry, frameCall, refusalLine, answerRequest, answerLine}
+use Rattle.frame.specs.LineCall.{lineInto, LinePromise}
 use Rattle.frame.proofs.HexLaws.{length-hex}
 
 -- written from the first byte on, bytes past them unchanged

@@ -7,7 +7,7 @@ use lib.ListN.{length, take}
 use Rattle.frame.specs.declared.hex.Digit.{Digit}
 use Rattle.frame.specs.declared.hex.Byte.{Byte}
 use Rattle.frame.specs.declared.hex.Request.{Request}
-use Rattle.frame.specs.Line.{requestOf}
+use Rattle.rules.specs.Line.{requestOf}
 
 abbrev pub ofDigit : Digit → Option ℕ
 ofDigit (Digit.Value v) = some v

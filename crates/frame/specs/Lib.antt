@@ -1,2 +1,2 @@
-pub mod Line
 pub mod Hex
+pub mod LineCall

@@ -3,7 +3,7 @@ ghost use mathlib.Core.Path.{_≡_};
 ghost use Prim.Native.Nat.{_+_, _*_, _<_, _≤_};
 ghost use lib.ListN.{length};
 ghost use Rattle.xdr.specs.Bytes.{Written};
-ghost use Rattle.frame.specs.Line.{digitValue, byteOf, digit, byteDigits, hexLine, refusalLine};
+ghost use Rattle.rules.specs.Line.{digitValue, byteOf, digit, byteDigits, hexLine, refusalLine};
 ghost use Rattle.frame.specs.Hex.{ofDigit, ofByte, RequestRead};
 
 pub enum Digit {

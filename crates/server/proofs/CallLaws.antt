@@ -3,11 +3,11 @@ use Prim.Native.Nat.{ℕ}
 use mathlib.Core.Path.{_≡_, ap, subst, _∙_}
 use mathlib.Core.List.{List, [], _∷_}
 use lib.ListN.{getD}
-use Rattle.store.specs.Geometry.{Geometry}
-use Rattle.store.specs.Store.{Store}
-use Rattle.store.specs.Calls.{MakePromise, storeRefusal, CountPromise}
-use Rattle.compound.specs.Serve.{Outcome}
-use Rattle.compound.specs.Claim.{Call, Contract}
+use Rattle.rules.specs.Geometry.{Geometry}
+use Rattle.rules.specs.Store.{Store}
+use Rattle.rules.specs.Calls.{MakePromise, storeRefusal, CountPromise}
+use Rattle.rules.specs.Serve.{Outcome}
+use Rattle.rules.specs.Claim.{Call, Contract}
 use Rattle.server.specs.Calls.{CountsPromise, ServePromise}
 
 two : (a b x y : ℕ) → a ≡ x → b ≡ y → a ∷ b ∷ [] ≡ x ∷ y ∷ []

@@ -1,7 +1,7 @@
 // The calls for a front end: server.h has their C declarations. Each hands its arguments to the call below it.
 ghost use mathlib.Core.Path.{_≡_};
-ghost use Rattle.store.specs.Geometry.{geometryOf};
-ghost use Rattle.store.specs.Calls.{MakePromise, storeRefusal};
+ghost use Rattle.store.specs.Lent.{geometryOf};
+ghost use Rattle.rules.specs.Calls.{MakePromise, storeRefusal};
 ghost use Rattle.server.specs.Calls.{CountsPromise, ServePromise};
 use store::Geometry;
 

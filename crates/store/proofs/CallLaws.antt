@@ -6,14 +6,14 @@ use native.Mathlib.Omega.{arith}
 use lib.ListN.{length, getD, replicate}
 use lib.Dec.{leb, eqb}
 use borrow.Author.Tests.{ne-eqb}
-use Rattle.store.specs.Geometry.{Geometry, goodGeometry}
-use Rattle.store.specs.Store.{Store, goodLengths, emptyStore}
-use Rattle.store.specs.Calls.{makeRefusal, madeStore, MakePromise, storeRefusal, usedCount, owedCount, CountPromise}
+use Rattle.rules.specs.Geometry.{Geometry, goodGeometry}
+use Rattle.rules.specs.Store.{Store, goodLengths, emptyStore}
+use Rattle.rules.specs.Calls.{makeRefusal, madeStore, MakePromise, storeRefusal, usedCount, owedCount, CountPromise}
 use Rattle.store.specs.Tables.{Shaped}
-use Rattle.store.specs.Sound.{sound, soundFile}
-use Rattle.store.specs.Blocks.{used, owed}
-use Rattle.store.specs.Count.{allTo}
-use Rattle.store.proofs.GeometryLaws.{lengths}
+use Rattle.rules.specs.Sound.{sound, soundFile}
+use Rattle.rules.specs.Blocks.{used, owed}
+use Rattle.rules.specs.Count.{allTo}
+use Rattle.rules.proofs.GeometryLaws.{lengths}
 
 -- ---- make an empty store
 

@@ -10,20 +10,20 @@ use native.Mathlib.Omega.{arith}
 use lib.ListN.{length, getD, set, take, drop, length-set, length-drop}
 use lib.Seq.{length-take-le, take-at, getD-set-same}
 use Rattle.xdr.specs.Bytes.{splice}
-use Rattle.store.specs.Geometry.{Geometry}
-use Rattle.store.specs.Store.{Store, wordOf}
-use Rattle.store.specs.Content.{slotByte, byteAt, tab, bytesFrom}
-use Rattle.store.specs.Edit.{each, within, firstSlot, slotCount, owned, own, slotBytes, overlay, storeSlot}
-use Rattle.store.specs.Write.{planWrite}
-use Rattle.store.specs.Copy.{planCopy, copyBytes}
+use Rattle.rules.specs.Geometry.{Geometry}
+use Rattle.rules.specs.Store.{Store, wordOf}
+use Rattle.rules.specs.Content.{slotByte, byteAt, tab, bytesFrom}
+use Rattle.rules.specs.Edit.{each, within, firstSlot, slotCount, owned, own, slotBytes, overlay, storeSlot}
+use Rattle.rules.specs.Write.{planWrite}
+use Rattle.rules.specs.Copy.{planCopy, copyBytes}
 use Rattle.store.specs.Tables.{InPool}
 use Rattle.store.specs.ReadCode.{Readable}
 use Rattle.store.specs.Bytes.{Backed, SlotCopy, AllCopies, storeSlots}
-use Rattle.store.proofs.GeometryLaws.{good}
-use Rattle.store.proofs.PlanLaws.{each-ext, own-slot, two-holders, own-sameR, each-sameR}
-use Rattle.store.proofs.ViewLaws.{Local, length-overlay, slot-long, shows-other, plan-before, own-local}
-use Rattle.store.proofs.FileLaws.{div-lt, apart, in-file, other-words, slots-fit}
-use Rattle.store.proofs.WriteLaws.{outside}
+use Rattle.rules.proofs.GeometryLaws.{good}
+use Rattle.rules.proofs.PlanLaws.{each-ext, own-slot, two-holders, own-sameR, each-sameR}
+use Rattle.rules.proofs.ViewLaws.{Local, length-overlay, slot-long, shows-other, plan-before, own-local}
+use Rattle.rules.proofs.FileLaws.{div-lt, apart, in-file, other-words, slots-fit}
+use Rattle.rules.proofs.WriteLaws.{outside}
 use Rattle.store.proofs.RangeLaws.{range-outside}
 use Rattle.store.proofs.SettleLaws.{saved-pool}
 use Rattle.store.proofs.EdgeLaws.{plan-held}

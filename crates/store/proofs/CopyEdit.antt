@@ -6,17 +6,17 @@ use mathlib.Core.List.{List}
 use native.Mathlib.Omega.{arith}
 use borrow.Author.Tests.{not-false}
 use lib.ListN.{length, set}
-use Rattle.store.specs.Geometry.{Geometry}
-use Rattle.store.specs.Store.{Store, sizeOf}
-use Rattle.store.specs.Content.{byteAt}
-use Rattle.store.specs.Edit.{within}
+use Rattle.rules.specs.Geometry.{Geometry}
+use Rattle.rules.specs.Store.{Store, sizeOf}
+use Rattle.rules.specs.Content.{byteAt}
+use Rattle.rules.specs.Edit.{within}
 use Rattle.store.specs.Own.{WritePlanned}
-use Rattle.store.specs.Copy.{planCopy, copyBytes, editCopy}
+use Rattle.rules.specs.Copy.{planCopy, copyBytes, editCopy}
 use Rattle.store.specs.Bytes.{AllCopies, storeSlots}
 use Rattle.store.specs.ReadCode.{Readable}
 use Rattle.store.specs.Edits.{EditKnown, EditPromise, SlotsKnown, SourceKnown, Finished}
-use Rattle.store.proofs.FileLaws.{Sound}
-use Rattle.store.proofs.CopyLaws.{copy-is-write}
+use Rattle.rules.proofs.FileLaws.{Sound}
+use Rattle.rules.proofs.CopyLaws.{copy-is-write}
 use Rattle.store.proofs.CopyBytes.{all-copies, copy-stored}
 use Rattle.store.proofs.WriteEdit.{edit-done, sound-store, write-empty, region-room, slotAt, lent, lent-count, edit-is, write-judged, write-refused, planned-is, after-long, after-pool, old-long}
 

@@ -9,17 +9,17 @@ use borrow.Author.Tests.{le-leb, not-true, not-false}
 use lib.ListN.{length}
 use lib.Seq.{set-getD}
 use lib.Dec.{leb}
-use Rattle.store.specs.Geometry.{Geometry}
-use Rattle.store.specs.Store.{Store, sizeOf}
-use Rattle.store.specs.Blocks.{need}
+use Rattle.rules.specs.Geometry.{Geometry}
+use Rattle.rules.specs.Store.{Store, sizeOf}
+use Rattle.rules.specs.Blocks.{need}
 use Rattle.store.specs.Tables.{InPool}
 use Rattle.store.specs.Own.{staysBy, DeallocatePlanned}
-use Rattle.store.specs.Edit.{each, ownUnless}
-use Rattle.store.specs.Deallocate.{whole, giveBack, planDeallocate, zeroBytes, editDeallocate}
+use Rattle.rules.specs.Edit.{each, ownUnless}
+use Rattle.rules.specs.Deallocate.{whole, giveBack, planDeallocate, zeroBytes, editDeallocate}
 use Rattle.store.specs.Bytes.{AllEdges, zeroSlots}
 use Rattle.store.specs.Edits.{EditPromise, RegionKnown, SlotsKnown, CutKnown}
-use Rattle.store.proofs.FileLaws.{Sound}
-use Rattle.store.proofs.DeallocateLaws.{deallocate-is}
+use Rattle.rules.proofs.FileLaws.{Sound}
+use Rattle.rules.proofs.DeallocateLaws.{deallocate-is}
 use Rattle.store.proofs.SettleLaws.{saved-pool, plan-deallocate-is}
 use Rattle.store.proofs.EdgeLaws.{edges-touched, zero-bytes-is, edge-held}
 use Rattle.store.proofs.WriteEdit.{edit-refused, edit-done, sound-store, slotAt, lent, slots-inside, lent-count, part-long}

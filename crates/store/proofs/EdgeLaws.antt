@@ -8,17 +8,17 @@ use native.Mathlib.Decide.{ℕ-discrete}
 use native.Mathlib.Omega.{arith}
 use lib.ListN.{length, getD, take, drop}
 use lib.Seq.{getD-set-same}
-use Rattle.store.specs.Geometry.{Geometry, goodGeometry}
-use Rattle.store.specs.Store.{Store, isHole, sizeOf}
-use Rattle.store.specs.Edit.{each, within, firstSlot, slotCount, owned, own, ownUnless, storeSlot, storeAt, storeUnless}
-use Rattle.store.specs.Deallocate.{whole, giveBack, planGiveBack, stays, planDeallocate, zeroBytes}
+use Rattle.rules.specs.Geometry.{Geometry, goodGeometry}
+use Rattle.rules.specs.Store.{Store, isHole, sizeOf}
+use Rattle.rules.specs.Edit.{each, within, firstSlot, slotCount, owned, own, ownUnless, storeSlot, storeAt, storeUnless}
+use Rattle.rules.specs.Deallocate.{whole, giveBack, planGiveBack, stays, planDeallocate, zeroBytes}
 use Rattle.store.specs.Tables.{InPool}
 use Rattle.store.specs.Bytes.{zeroEdge, Edge, AllEdges, zeroSlots}
-use Rattle.store.proofs.GeometryLaws.{good, block-pos}
-use Rattle.store.proofs.PlanLaws.{each-keeps, own-slot, ownUnless-sameR}
-use Rattle.store.proofs.ViewLaws.{plan-before, own-local}
-use Rattle.store.proofs.FileLaws.{slots-fit}
-use Rattle.store.proofs.DeallocateLaws.{giveBack-local, gave-back}
+use Rattle.rules.proofs.GeometryLaws.{good, block-pos}
+use Rattle.rules.proofs.PlanLaws.{each-keeps, own-slot, ownUnless-sameR}
+use Rattle.rules.proofs.ViewLaws.{plan-before, own-local}
+use Rattle.rules.proofs.FileLaws.{slots-fit}
+use Rattle.rules.proofs.DeallocateLaws.{giveBack-local, gave-back}
 use Rattle.store.proofs.StoreLaws.{slot-touched, each-from, word-cut}
 
 -- ---- the code

@@ -5,15 +5,15 @@ use mathlib.Core.Bool.{true}
 use mathlib.Core.List.{List}
 use native.Mathlib.Omega.{arith}
 use lib.ListN.{length}
-use Rattle.store.specs.Geometry.{Geometry}
-use Rattle.store.specs.Store.{Store}
+use Rattle.rules.specs.Geometry.{Geometry}
+use Rattle.rules.specs.Store.{Store}
 use Rattle.store.specs.Survey.{Surveyed}
 use Rattle.store.specs.Plan.{Counted}
 use Rattle.store.specs.Tables.{Shaped, Tallied}
-use Rattle.store.specs.Sound.{sound}
+use Rattle.rules.specs.Sound.{sound}
 use Rattle.store.specs.Edits.{EditKnown}
-use Rattle.store.proofs.GeometryLaws.{good, block-pos, slots-all, lengths}
-use Rattle.store.proofs.SoundLaws.{sound-facts}
+use Rattle.rules.proofs.GeometryLaws.{good, block-pos, slots-all, lengths}
+use Rattle.rules.proofs.SoundLaws.{sound-facts}
 use Rattle.store.proofs.SlotLaws.{number-shaped, number-sound}
 
 -- the words of a sound store, with a true table of one number for each block

@@ -11,16 +11,16 @@ use borrow.Author.Tests.{lt-ltb, le-ltb, le-leb, lt-leb, eq-eqb, ne-eqb, not-tru
 use lib.ListN.{length, getD, take, drop, length-drop}
 use lib.Seq.{length-take-le, getD-take, getD-drop}
 use lib.Dec.{ltb, eqb}
-use Rattle.store.specs.Count.{allTo}
-use Rattle.store.specs.Geometry.{Geometry}
-use Rattle.store.specs.Store.{Store, sizeOf, wordOf}
-use Rattle.store.specs.Content.{slotByte, byteAt}
-use Rattle.store.specs.Sound.{ceilDiv, soundFile}
+use Rattle.rules.specs.Count.{allTo}
+use Rattle.rules.specs.Geometry.{Geometry}
+use Rattle.rules.specs.Store.{Store, sizeOf, wordOf}
+use Rattle.rules.specs.Content.{slotByte, byteAt}
+use Rattle.rules.specs.Sound.{ceilDiv, soundFile}
 use Rattle.store.specs.Tables.{FileKnown}
-use Rattle.store.proofs.GeometryLaws.{Good, good, block-pos, file-most, lengths}
-use Rattle.store.proofs.BoolLaws.{and-both, and-false, or-inl}
-use Rattle.store.proofs.FileLaws.{ceil-le, le-ceil}
-use Rattle.store.proofs.SoundLaws.{allTo-at, allTo-all}
+use Rattle.rules.proofs.GeometryLaws.{Good, good, block-pos, file-most, lengths}
+use Rattle.rules.proofs.BoolLaws.{and-both, and-false, or-inl}
+use Rattle.rules.proofs.FileLaws.{ceil-le, le-ceil}
+use Rattle.rules.proofs.SoundLaws.{allTo-at, allTo-all}
 
 -- ---- a loop that tests the numbers below n, one a turn: those below i passed
 

@@ -10,19 +10,19 @@ use borrow.Author.Tests.{eq-eqb, ne-eqb, lt-leb}
 use lib.ListN.{length, getD, set, take, drop, drop-of-length-le}
 use lib.Seq.{set-getD, drop-cons, sets, sets-eq}
 use Rattle.xdr.specs.Bytes.{splice}
-use Rattle.store.specs.Geometry.{Geometry}
-use Rattle.store.specs.Count.{bit, sumTo}
-use Rattle.store.specs.Store.{word}
-use Rattle.store.specs.Blocks.{holds, holders, top, used, owed, lowestFree}
+use Rattle.rules.specs.Geometry.{Geometry}
+use Rattle.rules.specs.Count.{bit, sumTo}
+use Rattle.rules.specs.Store.{word}
+use Rattle.rules.specs.Blocks.{holds, holders, top, used, owed, lowestFree}
 use Rattle.store.specs.Tables.{InPool}
 use Rattle.store.specs.Tally.{takesBy, firstZero}
 use Rattle.store.specs.Plan.{Counted, Stored, fitsPool}
-use Rattle.store.specs.Edit.{each, firstSlot, slotCount, owned, own, ownUnless}
-use Rattle.store.specs.Write.{planWrite}
+use Rattle.rules.specs.Edit.{each, firstSlot, slotCount, owned, own, ownUnless}
+use Rattle.rules.specs.Write.{planWrite}
 use Rattle.store.specs.Own.{takes, NoneFree, SlotOwned, RangeOwned}
-use Rattle.store.proofs.CountLaws.{sumTo-add, sumTo-point, sumTo-cut, sumTo-ge}
-use Rattle.store.proofs.NeedLaws.{lowestFree-least}
-use Rattle.store.proofs.PlanLaws.{each-sameR, ownUnless-sameR, own-slot, plan-used}
+use Rattle.rules.proofs.CountLaws.{sumTo-add, sumTo-point, sumTo-cut, sumTo-ge}
+use Rattle.rules.proofs.NeedLaws.{lowestFree-least}
+use Rattle.rules.proofs.PlanLaws.{each-sameR, ownUnless-sameR, own-slot, plan-used}
 use Rattle.store.proofs.RangeLaws.{each-shift}
 use Rattle.store.proofs.TallyLaws.{takes-same, tallied-free, tallied-full}
 

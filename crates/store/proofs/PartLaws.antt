@@ -11,10 +11,10 @@ use lib.ListN.{length, getD, take, drop, length-take, length-drop}
 use lib.Seq.{ext-getD, getD-take, getD-drop}
 use Rattle.xdr.specs.Bytes.{splice}
 use Rattle.xdr.proofs.BytesLaws.{length-splice, splice-in, splice-below, splice-above}
-use Rattle.store.specs.Content.{tab}
-use Rattle.store.specs.Edit.{within, overlay}
-use Rattle.store.proofs.ViewLaws.{length-overlay, getD-overlay, length-tab, getD-tab}
-use Rattle.store.proofs.WriteLaws.{outside, inside}
+use Rattle.rules.specs.Content.{tab}
+use Rattle.rules.specs.Edit.{within, overlay}
+use Rattle.rules.proofs.ViewLaws.{length-overlay, getD-overlay, length-tab, getD-tab}
+use Rattle.rules.proofs.WriteLaws.{outside, inside}
 
 -- a test that says the same at each place of the list
 pub overlay-ext : (s t : ℕ → Bool) (new : ℕ → ℕ) (xs : List ℕ) (p : ℕ) → ((i : ℕ) → p ≤ i → i < p + length xs → s i ≡ t i) → overlay s new p xs ≡ overlay t new p xs

@@ -13,15 +13,15 @@ use lib.ListN.{length, getD, take, drop, replicate, length-append, length-take, 
 use lib.Seq.{ext-getD, getD-take, getD-drop, length-take-le, take-at}
 use Rattle.xdr.specs.Bytes.{Written}
 use Rattle.xdr.proofs.BytesLaws.{put-splice}
-use Rattle.store.specs.Geometry.{Geometry}
-use Rattle.store.specs.Store.{Store, wordOf}
-use Rattle.store.specs.Content.{byteAt, tab, bytesFrom}
-use Rattle.store.specs.Read.{holeAt}
+use Rattle.rules.specs.Geometry.{Geometry}
+use Rattle.rules.specs.Store.{Store, wordOf}
+use Rattle.rules.specs.Content.{byteAt, tab, bytesFrom}
+use Rattle.rules.specs.Read.{holeAt}
 use Rattle.store.specs.ReadCode.{Placed, Readable, InSlot}
-use Rattle.store.proofs.GeometryLaws.{Good, good, slots-all, block-pos}
-use Rattle.store.proofs.FileLaws.{div-lt, in-file}
-use Rattle.store.proofs.ViewLaws.{length-tab, getD-tab, in-memory}
-use Rattle.store.proofs.ReadLaws.{tab-append, same-slot, laid-slot}
+use Rattle.rules.proofs.GeometryLaws.{Good, good, slots-all, block-pos}
+use Rattle.rules.proofs.FileLaws.{div-lt, in-file}
+use Rattle.rules.proofs.ViewLaws.{length-tab, getD-tab, in-memory}
+use Rattle.rules.proofs.ReadLaws.{tab-append, same-slot, laid-slot}
 
 -- ---- a place's word
 

@@ -7,16 +7,16 @@ use native.Mathlib.Nat.{mul-le-mul-right, div-add-mod'}
 use native.Mathlib.Omega.{arith}
 use borrow.Author.Tests.{le-leb, lt-leb}
 use lib.ListN.{length, set}
-use Rattle.store.specs.Geometry.{Geometry}
-use Rattle.store.specs.Store.{Store, sizeOf}
+use Rattle.rules.specs.Geometry.{Geometry}
+use Rattle.rules.specs.Store.{Store, sizeOf}
 use Rattle.store.specs.Plan.{Planned}
-use Rattle.store.specs.Sound.{ceilDiv}
-use Rattle.store.specs.Edit.{each, firstSlot, slotCount}
-use Rattle.store.specs.Allocate.{reserve, editAllocate}
-use Rattle.store.specs.Clone.{share, editClone}
+use Rattle.rules.specs.Sound.{ceilDiv}
+use Rattle.rules.specs.Edit.{each, firstSlot, slotCount}
+use Rattle.rules.specs.Allocate.{reserve, editAllocate}
+use Rattle.rules.specs.Clone.{share, editClone}
 use Rattle.store.specs.Edits.{EditPromise, RegionKnown, SlotsKnown, CloneKnown}
-use Rattle.store.proofs.GeometryLaws.{block-pos, file-most}
-use Rattle.store.proofs.FileLaws.{ceil-behind}
+use Rattle.rules.proofs.GeometryLaws.{block-pos, file-most}
+use Rattle.rules.proofs.FileLaws.{ceil-behind}
 use Rattle.store.proofs.RangeLaws.{plan-allocate-is, plan-clone-is}
 use Rattle.store.proofs.WriteEdit.{good-geometry, sound-store, edit-none, plan-refused, plan-done, slotAt, slots-inside, file-inside}
 

@@ -10,16 +10,16 @@ use native.Mathlib.Omega.{arith}
 use borrow.Author.Tests.{leb-true, leb-false, le-leb, lt-leb}
 use lib.ListN.{length, getD, set}
 use lib.Dec.{leb}
-use Rattle.store.specs.Geometry.{Geometry, goodGeometry}
-use Rattle.store.specs.Sound.{ceilDiv}
-use Rattle.store.specs.Edit.{each, firstSlot, slotCount}
-use Rattle.store.specs.Allocate.{reserve, planAllocate}
-use Rattle.store.specs.Clone.{share, planClone}
-use Rattle.store.specs.Deallocate.{whole, giveBack, planGiveBack}
+use Rattle.rules.specs.Geometry.{Geometry, goodGeometry}
+use Rattle.rules.specs.Sound.{ceilDiv}
+use Rattle.rules.specs.Edit.{each, firstSlot, slotCount}
+use Rattle.rules.specs.Allocate.{reserve, planAllocate}
+use Rattle.rules.specs.Clone.{share, planClone}
+use Rattle.rules.specs.Deallocate.{whole, giveBack, planGiveBack}
 use Rattle.store.specs.Plan.{Counted, Stored}
 use Rattle.store.specs.Ranges.{RangeDone}
-use Rattle.store.proofs.GeometryLaws.{good, file-most}
-use Rattle.store.proofs.ViewLaws.{Local, plan-before, plan-after}
+use Rattle.rules.proofs.GeometryLaws.{good, file-most}
+use Rattle.rules.proofs.ViewLaws.{Local, plan-before, plan-after}
 
 -- ---- one slot
 

@@ -10,16 +10,16 @@ use lib.ListN.{length, getD, take, drop, length-take, length-drop, List·getD-eq
 use lib.Seq.{getD-take, getD-drop, length-take-le, ext-getD}
 use Rattle.xdr.specs.Bytes.{splice}
 use Rattle.xdr.proofs.BytesLaws.{length-splice, splice-in, splice-below, splice-above}
-use Rattle.store.specs.Geometry.{Geometry}
-use Rattle.store.specs.Store.{isHole, wordOf}
+use Rattle.rules.specs.Geometry.{Geometry}
+use Rattle.rules.specs.Store.{isHole, wordOf}
 use Rattle.store.specs.Tables.{InPool}
 use Rattle.store.specs.Plan.{Counted, fitsPool, Planned}
-use Rattle.store.specs.Edit.{each, firstSlot, slotCount, own, ownUnless}
-use Rattle.store.specs.Deallocate.{whole, giveBack, stays, planGiveBack, planDeallocate}
+use Rattle.rules.specs.Edit.{each, firstSlot, slotCount, own, ownUnless}
+use Rattle.rules.specs.Deallocate.{whole, giveBack, stays, planGiveBack, planDeallocate}
 use Rattle.store.specs.Ranges.{RangeDone}
 use Rattle.store.specs.Own.{Undone, SlotOwned, RangeOwned, staysBy}
-use Rattle.store.proofs.PlanLaws.{each-ext}
-use Rattle.store.proofs.ViewLaws.{Local, own-local}
+use Rattle.rules.proofs.PlanLaws.{each-ext}
+use Rattle.rules.proofs.ViewLaws.{Local, own-local}
 use Rattle.store.proofs.RangeLaws.{range-outside}
 use Rattle.store.proofs.OwnLaws.{stop-unfit}
 

@@ -13,19 +13,19 @@ use lib.ListN.{length, getD, take, drop, replicate, length-take, length-drop}
 use lib.Seq.{length-take-le, take-at, drop-at, drop-drop, getD-take, getD-drop}
 use Rattle.xdr.specs.Bytes.{splice}
 use Rattle.xdr.proofs.BytesLaws.{length-splice, put-splice, put-zeroed}
-use Rattle.store.specs.Geometry.{Geometry}
-use Rattle.store.specs.Store.{Store}
-use Rattle.store.specs.Content.{tab}
-use Rattle.store.specs.Edit.{each, within, firstSlot, slotCount, slotBytes, overlay, storeSlot, storeAt}
-use Rattle.store.specs.Write.{planWrite, writeBytes}
+use Rattle.rules.specs.Geometry.{Geometry}
+use Rattle.rules.specs.Store.{Store}
+use Rattle.rules.specs.Content.{tab}
+use Rattle.rules.specs.Edit.{each, within, firstSlot, slotCount, slotBytes, overlay, storeSlot, storeAt}
+use Rattle.rules.specs.Write.{planWrite, writeBytes}
 use Rattle.store.specs.Tables.{InPool}
 use Rattle.store.specs.Bytes.{Starts, Backed, Touched, AllTouched, storeSlots}
-use Rattle.store.proofs.GeometryLaws.{Good, block-pos, file-most}
-use Rattle.store.proofs.FileLaws.{slot-bytes}
-use Rattle.store.proofs.ViewLaws.{slot-long}
-use Rattle.store.proofs.WriteLaws.{outside, inside}
+use Rattle.rules.proofs.GeometryLaws.{Good, block-pos, file-most}
+use Rattle.rules.proofs.FileLaws.{slot-bytes}
+use Rattle.rules.proofs.ViewLaws.{slot-long}
+use Rattle.rules.proofs.WriteLaws.{outside, inside}
 use Rattle.store.proofs.PartLaws.{overlay-ext, overlay-splice, write-part}
-use Rattle.store.proofs.ReadLaws.{tab-zeros}
+use Rattle.rules.proofs.ReadLaws.{tab-zeros}
 
 -- ---- splices
 

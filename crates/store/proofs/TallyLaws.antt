@@ -12,14 +12,14 @@ use borrow.Author.Tests.{eq-eqb, ne-eqb, eqb-true, eqb-false}
 use lib.ListN.{length, getD, set, drop, drop-of-length-le}
 use lib.Seq.{drop-cons, getD-set-same, getD-set-other}
 use lib.Dec.{ltb, eqb}
-use Rattle.store.specs.Count.{bit, count, sumTo, countTo, allTo}
-use Rattle.store.specs.Store.{isHole, isReserved}
-use Rattle.store.specs.Blocks.{isShared, holds, holders, top, used, owes, owed, lowestFree}
+use Rattle.rules.specs.Count.{bit, count, sumTo, countTo, allTo}
+use Rattle.rules.specs.Store.{isHole, isReserved}
+use Rattle.rules.specs.Blocks.{isShared, holds, holders, top, used, owes, owed, lowestFree}
 use Rattle.store.specs.Tables.{InPool, Tallied}
 use Rattle.store.specs.Tally.{noted, takesBy, owesBy, firstZero}
-use Rattle.store.proofs.CountLaws.{sumTo-ext, count-drop}
-use Rattle.store.proofs.NeedLaws.{lowestFree-free, scan-ends, used-to}
-use Rattle.store.proofs.SoundLaws.{allTo-at}
+use Rattle.rules.proofs.CountLaws.{sumTo-ext, count-drop}
+use Rattle.rules.proofs.NeedLaws.{lowestFree-free, scan-ends, used-to}
+use Rattle.rules.proofs.SoundLaws.{allTo-at}
 
 -- ---- tests and counts
 

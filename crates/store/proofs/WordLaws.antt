@@ -10,12 +10,12 @@ use lib.ListN.{length, getD, set, length-set}
 use lib.Seq.{getD-set-same, getD-set-other}
 use lib.Dec.{eqb}
 use borrow.Author.Tests.{eqb-true, eqb-false, eq-eqb, ne-eqb}
-use Rattle.store.specs.Count.{bit}
-use Rattle.store.specs.Blocks.{holds, holders}
+use Rattle.rules.specs.Count.{bit}
+use Rattle.rules.specs.Blocks.{holds, holders}
 use Rattle.store.specs.Tally.{noted, forgot}
 use Rattle.store.specs.Plan.{Counted, Stored}
-use Rattle.store.proofs.CountLaws.{count-set}
-use Rattle.store.proofs.PlanLaws.{inPool-set}
+use Rattle.rules.proofs.CountLaws.{count-set}
+use Rattle.rules.proofs.PlanLaws.{inPool-set}
 use Rattle.store.proofs.TallyLaws.{noted-at, count-most}
 
 pub forgot-none : (k : ℕ) (cs : List ℕ) → k ≡ 0 → cs ≡ forgot k cs

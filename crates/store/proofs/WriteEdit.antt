@@ -9,22 +9,22 @@ use borrow.Author.Tests.{le-leb, not-true, not-false}
 use lib.ListN.{length, getD, set, take, drop, length-drop}
 use lib.Seq.{length-take-le, getD-take, getD-drop, set-getD}
 use lib.Dec.{leb}
-use Rattle.store.specs.Geometry.{Geometry, goodGeometry}
-use Rattle.store.specs.Store.{Store, sizeOf}
-use Rattle.store.specs.Blocks.{need}
+use Rattle.rules.specs.Geometry.{Geometry, goodGeometry}
+use Rattle.rules.specs.Store.{Store, sizeOf}
+use Rattle.rules.specs.Blocks.{need}
 use Rattle.store.specs.Tables.{InPool}
-use Rattle.store.specs.Sound.{ceilDiv}
+use Rattle.rules.specs.Sound.{ceilDiv}
 use Rattle.store.specs.Plan.{Counted, Planned}
 use Rattle.store.specs.Own.{WritePlanned}
-use Rattle.store.specs.Edit.{each, within, firstSlot, slotCount, own}
-use Rattle.store.specs.Write.{planWrite, writeBytes, editWrite}
+use Rattle.rules.specs.Edit.{each, within, firstSlot, slotCount, own}
+use Rattle.rules.specs.Write.{planWrite, writeBytes, editWrite}
 use Rattle.store.specs.Bytes.{AllTouched, storeSlots}
 use Rattle.store.specs.Edits.{EditKnown, EditPromise, RegionKnown, SlotsKnown, Finished}
-use Rattle.store.proofs.GeometryLaws.{Good, good, block-pos, file-most}
-use Rattle.store.proofs.PlanLaws.{each-sameR, own-sameR}
-use Rattle.store.proofs.FileLaws.{Sound, first-before, slots-fit}
-use Rattle.store.proofs.WriteLaws.{write-is}
-use Rattle.store.proofs.SoundLaws.{sound-facts}
+use Rattle.rules.proofs.GeometryLaws.{Good, good, block-pos, file-most}
+use Rattle.rules.proofs.PlanLaws.{each-sameR, own-sameR}
+use Rattle.rules.proofs.FileLaws.{Sound, first-before, slots-fit}
+use Rattle.rules.proofs.WriteLaws.{write-is}
+use Rattle.rules.proofs.SoundLaws.{sound-facts}
 use Rattle.store.proofs.SettleLaws.{saved-pool}
 use Rattle.store.proofs.OwnLaws.{plan-write-is}
 use Rattle.store.proofs.StoreLaws.{all-touched, write-bytes-is}

@@ -5,10 +5,10 @@ use mathlib.Core.Bool.{Bool, true, false, cond, _||_}
 use mathlib.Core.List.{List}
 use mathlib.Core.Logic.{_≢_}
 use lib.ListN.{length, getD}
-use Rattle.store.specs.Geometry.{Geometry, goodGeometry}
-use Rattle.store.specs.Store.{isHole, wordOf}
-use Rattle.store.specs.Edit.{each, within, storeSlot}
-use Rattle.store.specs.Deallocate.{whole}
+use Rattle.rules.specs.Geometry.{Geometry, goodGeometry}
+use Rattle.rules.specs.Store.{isHole, wordOf}
+use Rattle.rules.specs.Edit.{each, within, storeSlot}
+use Rattle.rules.specs.Deallocate.{whole}
 use Rattle.store.specs.ReadCode.{Readable}
 
 -- the block of word w starts at r

@@ -6,13 +6,13 @@ use mathlib.Core.List.{List}
 use mathlib.Core.Logic.{_≢_}
 use lib.ListN.{length, getD, set}
 use lib.Dec.{leb}
-use Rattle.store.specs.Geometry.{Geometry}
-use Rattle.store.specs.Store.{Store, sizeOf}
-use Rattle.store.specs.Blocks.{need}
+use Rattle.rules.specs.Geometry.{Geometry}
+use Rattle.rules.specs.Store.{Store, sizeOf}
+use Rattle.rules.specs.Blocks.{need}
 use Rattle.store.specs.Tables.{Shaped}
-use Rattle.store.specs.Sound.{sound}
+use Rattle.rules.specs.Sound.{sound}
 use Rattle.store.specs.Plan.{Counted}
-use Rattle.store.specs.Edit.{within, firstSlot, slotCount}
+use Rattle.rules.specs.Edit.{within, firstSlot, slotCount}
 use Rattle.store.specs.Bytes.{storeSlots}
 
 -- a sound store with its table of holders, one number for each block, and a file

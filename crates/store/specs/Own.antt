@@ -5,11 +5,11 @@ use mathlib.Core.Bool.{Bool, true, false, cond, _||_}
 use mathlib.Core.List.{List}
 use lib.ListN.{length, getD, set, take, drop}
 use Rattle.xdr.specs.Bytes.{splice}
-use Rattle.store.specs.Geometry.{Geometry}
-use Rattle.store.specs.Store.{isHole}
-use Rattle.store.specs.Blocks.{isShared, lowestFree}
-use Rattle.store.specs.Edit.{each, owned, own, ownUnless}
-use Rattle.store.specs.Deallocate.{whole, giveBack}
+use Rattle.rules.specs.Geometry.{Geometry}
+use Rattle.rules.specs.Store.{isHole}
+use Rattle.rules.specs.Blocks.{isShared, lowestFree}
+use Rattle.rules.specs.Edit.{each, owned, own, ownUnless}
+use Rattle.rules.specs.Deallocate.{whole, giveBack}
 use Rattle.store.specs.Plan.{Counted, Planned}
 
 -- a slot with word w that is to have an unshared block takes one (`owned` of Edit)

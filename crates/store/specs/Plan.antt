@@ -5,7 +5,7 @@ use mathlib.Core.Bool.{Bool, cond}
 use mathlib.Core.List.{List}
 use lib.ListN.{length, set}
 use lib.Dec.{leb}
-use Rattle.store.specs.Blocks.{used, owed}
+use Rattle.rules.specs.Blocks.{used, owed}
 use Rattle.store.specs.Tables.{InPool, Tallied}
 
 -- words whose blocks are in the pool, with a true table of holders

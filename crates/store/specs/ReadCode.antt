@@ -6,10 +6,10 @@ use mathlib.Core.List.{List}
 use lib.ListN.{length}
 use Rattle.xdr.specs.Encode.{concatMap}
 use Rattle.xdr.specs.Bytes.{Written}
-use Rattle.store.specs.Geometry.{Geometry, goodGeometry}
-use Rattle.store.specs.Store.{Store, isHole, wordOf}
+use Rattle.rules.specs.Geometry.{Geometry, goodGeometry}
+use Rattle.rules.specs.Store.{Store, isHole, wordOf}
 use Rattle.store.specs.Tables.{InPool}
-use Rattle.store.specs.Read.{Piece, pieces, pieceBytes, pieceSize, piecesSize}
+use Rattle.rules.specs.Read.{Piece, pieces, pieceBytes, pieceSize, piecesSize}
 
 -- file f has a slot word for each place below `end`
 pub record Placed (g : Geometry) (ws : List ℕ) (f end : ℕ) : Type 0 where

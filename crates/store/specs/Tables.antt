@@ -4,9 +4,9 @@ use mathlib.Core.Path.{_≡_}
 use mathlib.Core.Bool.{true}
 use mathlib.Core.List.{List}
 use lib.ListN.{length, getD}
-use Rattle.store.specs.Geometry.{Geometry, goodGeometry}
-use Rattle.store.specs.Store.{Store, goodLengths}
-use Rattle.store.specs.Blocks.{holders}
+use Rattle.rules.specs.Geometry.{Geometry, goodGeometry}
+use Rattle.rules.specs.Store.{Store, goodLengths}
+use Rattle.rules.specs.Blocks.{holders}
 
 -- a good geometry, and tables of its lengths
 pub record Shaped (g : Geometry) (st : Store) : Type 0 where

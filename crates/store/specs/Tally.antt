@@ -5,7 +5,7 @@ use mathlib.Core.Bool.{Bool, _&&_, _||_}
 use mathlib.Core.List.{List, [], _∷_}
 use lib.ListN.{length, getD, set, replicate}
 use lib.Dec.{ltb}
-use Rattle.store.specs.Store.{isHole, isReserved}
+use Rattle.rules.specs.Store.{isHole, isReserved}
 use Rattle.store.specs.Tables.{InPool}
 
 -- the counts with one more for block k - 1; a hole's k is 0

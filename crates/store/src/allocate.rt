@@ -1,8 +1,8 @@
 // ALLOCATE: the plan of its slots, and where the plan fits the pool the size. No byte of memory changes.
 ghost use Prim.Native.Nat.{_+_, _≤_};
 ghost use lib.ListN.{length};
-ghost use Rattle.store.specs.Geometry.{geometryOf};
-ghost use Rattle.store.specs.Allocate.{editAllocate};
+ghost use Rattle.store.specs.Lent.{geometryOf};
+ghost use Rattle.rules.specs.Allocate.{editAllocate};
 ghost use Rattle.store.specs.Edits.{EditPromise, RegionKnown};
 use crate::edit_plans::plan_allocate;
 use crate::geometry::Geometry;

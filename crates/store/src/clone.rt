@@ -1,8 +1,8 @@
 // CLONE: the plan of the target's slots, and where the plan fits the pool the size. No byte of memory changes.
 ghost use Prim.Native.Nat.{_<_, _≤_};
 ghost use lib.ListN.{length};
-ghost use Rattle.store.specs.Geometry.{geometryOf};
-ghost use Rattle.store.specs.Clone.{editClone};
+ghost use Rattle.store.specs.Lent.{geometryOf};
+ghost use Rattle.rules.specs.Clone.{editClone};
 ghost use Rattle.store.specs.Edits.{EditPromise, CloneKnown};
 use crate::edit_plans::plan_clone;
 use crate::geometry::Geometry;

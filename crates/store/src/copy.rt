@@ -1,9 +1,9 @@
 // COPY: as WRITE, with the bytes of another file.
 ghost use Prim.Native.Nat.{_+_, _-_, _<_, _≤_};
 ghost use lib.ListN.{length};
-ghost use Rattle.store.specs.Geometry.{geometryOf};
-ghost use Rattle.store.specs.Content.{byteAt};
-ghost use Rattle.store.specs.Copy.{editCopy};
+ghost use Rattle.store.specs.Lent.{geometryOf};
+ghost use Rattle.rules.specs.Content.{byteAt};
+ghost use Rattle.rules.specs.Copy.{editCopy};
 ghost use Rattle.store.specs.Bytes.{AllCopies};
 ghost use Rattle.store.specs.Edits.{EditPromise, RegionKnown, SlotsKnown, SourceKnown, CopyKnown, Finished};
 use crate::copy_bytes::copy_range;

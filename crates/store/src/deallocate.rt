@@ -1,8 +1,8 @@
 // DEALLOCATE: the plan of its slots, and where the plan fits the pool the bytes. The size stays.
 ghost use Prim.Native.Nat.{_≤_};
 ghost use lib.ListN.{length};
-ghost use Rattle.store.specs.Geometry.{geometryOf};
-ghost use Rattle.store.specs.Deallocate.{editDeallocate};
+ghost use Rattle.store.specs.Lent.{geometryOf};
+ghost use Rattle.rules.specs.Deallocate.{editDeallocate};
 ghost use Rattle.store.specs.Edits.{EditPromise, CutKnown, RegionKnown, SlotsKnown};
 use crate::bytes::zero_edges;
 use crate::edit_plans::plan_deallocate;

@@ -1,8 +1,8 @@
 // Making an empty store.
 ghost use mathlib.Core.Path.{_≡_};
 ghost use lib.ListN.{length, replicate};
-ghost use Rattle.store.specs.Geometry.{geometryOf};
-ghost use Rattle.store.specs.Calls.{MakePromise};
+ghost use Rattle.store.specs.Lent.{geometryOf};
+ghost use Rattle.rules.specs.Calls.{MakePromise};
 use crate::geometry::Geometry;
 use crate::geometry::good_lengths;
 

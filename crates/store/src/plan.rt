@@ -4,7 +4,7 @@ ghost use mathlib.Core.Bool.{false};
 ghost use Prim.Native.Nat.{suc, _+_, _%_, _<_, _≤_};
 ghost use lib.ListN.{length};
 ghost use Rattle.xdr.specs.Bytes.{splice};
-ghost use Rattle.store.specs.Store.{word};
+ghost use Rattle.rules.specs.Store.{word};
 ghost use Rattle.store.specs.Tables.{InPool};
 ghost use Rattle.store.specs.Plan.{Counted, fitsPool, Planned};
 ghost use Rattle.store.specs.Own.{Undone, SlotOwned, RangeOwned, WritePlanned};

@@ -3,9 +3,9 @@ ghost use mathlib.Core.Path.{_≡_};
 ghost use mathlib.Core.List.{List};
 ghost use Prim.Native.Nat.{ℕ, _+_, _/_, _<_};
 ghost use lib.ListN.{getD};
-ghost use Rattle.store.specs.Geometry.{geometryOf};
-ghost use Rattle.store.specs.Store.{wordOf};
-ghost use Rattle.store.specs.Seek.{seekPlace};
+ghost use Rattle.store.specs.Lent.{geometryOf};
+ghost use Rattle.rules.specs.Store.{wordOf};
+ghost use Rattle.rules.specs.Seek.{seekPlace};
 ghost use Rattle.store.specs.ReadCode.{Placed, PieceEnds, holeIn};
 use crate::geometry::Geometry;
 

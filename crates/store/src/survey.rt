@@ -1,8 +1,8 @@
 // Whether a store is sound, and its used and owed blocks, from one table of holders.
 ghost use mathlib.Core.Path.{_≡_};
-ghost use Rattle.store.specs.Geometry.{geometryOf};
+ghost use Rattle.store.specs.Lent.{geometryOf};
 ghost use Rattle.store.specs.Tables.{Shaped};
-ghost use Rattle.store.specs.Calls.{storeRefusal, CountPromise};
+ghost use Rattle.rules.specs.Calls.{storeRefusal, CountPromise};
 ghost use Rattle.store.specs.Survey.{TableReady, TableFits, Surveyed};
 use crate::files::files_sound;
 use crate::geometry::Geometry;

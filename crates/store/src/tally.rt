@@ -3,7 +3,7 @@ ghost use mathlib.Core.Path.{_≡_};
 ghost use Prim.Native.Nat.{ℕ, _/_, _<_, _≤_};
 ghost use lib.ListN.{length, getD};
 ghost use lib.Dec.{leb, ltb};
-ghost use Rattle.store.specs.Count.{allTo, bit, count};
+ghost use Rattle.rules.specs.Count.{allTo, bit, count};
 ghost use Rattle.store.specs.Tables.{InPool, Tallied};
 ghost use Rattle.store.specs.Tally.{noted, Untallied, takesBy, owesBy, firstZero};
 

@@ -1,7 +1,7 @@
 // One slot shown without copying: its part of the block memory, or the zero page that the caller lends.
 ghost use mathlib.Core.Path.{_≡_};
-ghost use Rattle.store.specs.Geometry.{geometryOf};
-ghost use Rattle.store.specs.Calls.{slotRefusal, slotView, KindPromise};
+ghost use Rattle.store.specs.Lent.{geometryOf};
+ghost use Rattle.rules.specs.Calls.{slotRefusal, slotView, KindPromise};
 use crate::files::zero_bytes;
 use crate::geometry::Geometry;
 use crate::geometry::good_lengths;

@@ -1,5 +1,5 @@
-use Rattle.store.specs.Geometry.{geometryOf}
-use Rattle.store.proofs.GeometryLaws.{good, block-pos}
+use Rattle.store.specs.Lent.{geometryOf}
+use Rattle.rules.proofs.GeometryLaws.{good, block-pos}
 use Rattle.compound.proofs.LeafLaws.{uneven-from, uneven-to, even-count, uneven-past, uneven-end}
 use Rattle.compound.proofs.clones.uneven_clone.Statement.{statement}
 use Rattle.compound.proofs.clones.uneven_clone.Tie as tie

@@ -1,5 +1,5 @@
 use mathlib.Core.Path.{sym, ap, _∙_}
-use Rattle.compound.specs.Operation.{cloneArgs, five, CLONE}
+use Rattle.rules.specs.Operation.{cloneArgs, five, CLONE}
 use Rattle.compound.specs.Decoded.{ofCloneArgs}
 use Rattle.compound.proofs.DecodeLaws.{item-fault, item-got}
 use borrow.Author.Needs.{needs}

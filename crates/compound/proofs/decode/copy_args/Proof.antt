@@ -1,7 +1,7 @@
 use mathlib.Core.Path.{sym, ap, _∙_}
 use Rattle.xdr.specs.Answers.{ofWord}
 use Rattle.xdr.specs.Layout.{uint, boolean, _then_}
-use Rattle.compound.specs.Operation.{cloneArgs}
+use Rattle.rules.specs.Operation.{cloneArgs}
 use Rattle.compound.specs.Decoded.{ofCloneArgs}
 use Rattle.compound.proofs.DecodeLaws.{at-fault, boolean-fault, boolean-got, both-got, clone-stop, first-fault, next-fault}
 use borrow.Author.Needs.{needs}

@@ -1,5 +1,5 @@
 use mathlib.Core.Path.{sym, ap, _∙_}
-use Rattle.compound.specs.Operation.{handleArgs, PUTFH}
+use Rattle.rules.specs.Operation.{handleArgs, PUTFH}
 use Rattle.compound.specs.Decoded.{ofHandle}
 use Rattle.compound.proofs.DecodeLaws.{item-fault, item-got}
 use borrow.Author.Needs.{needs}

@@ -1,5 +1,5 @@
 use mathlib.Core.Path.{sym, ap, _∙_}
-use Rattle.compound.specs.Operation.{writeArgs, WRITE}
+use Rattle.rules.specs.Operation.{writeArgs, WRITE}
 use Rattle.compound.specs.Decoded.{ofWriteArgs}
 use Rattle.compound.proofs.DecodeLaws.{item-fault, item-got}
 use borrow.Author.Needs.{needs}

@@ -1,5 +1,5 @@
 use mathlib.Core.Path.{refl, ap}
-use Rattle.compound.specs.Run.{body}
+use Rattle.rules.specs.Run.{body}
 use Rattle.compound.specs.Runner.{fileIn}
 use Rattle.compound.proofs.RunLaws.{edit-known}
 use Rattle.compound.proofs.EditOps.{allocate-on, unopened, opened-plain}

@@ -1,6 +1,6 @@
 use mathlib.Core.Bool.{not}
 use mathlib.Core.Path.{refl, sym, ap, _∙_}
-use Rattle.compound.specs.Run.{errors}
+use Rattle.rules.specs.Run.{errors}
 use Rattle.compound.proofs.EditOps.{hit, miss}
 use borrow.Author.Needs.{needs}
 use Rattle.compound.proofs.edits.write_error.Statement.{statement}

@@ -1,7 +1,7 @@
 use mathlib.Core.Path.{refl, ap}
 use native.Mathlib.Omega.{arith}
-use Rattle.compound.specs.Operation.{GETFH}
-use Rattle.compound.specs.Run.{errors}
+use Rattle.rules.specs.Operation.{GETFH}
+use Rattle.rules.specs.Run.{errors}
 use Rattle.compound.specs.Runner.{fileIn}
 use Rattle.compound.proofs.HandleOps.{no-handle, get-answer}
 use borrow.Author.Needs.{needs}

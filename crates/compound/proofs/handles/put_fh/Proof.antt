@@ -4,9 +4,9 @@ use native.Mathlib.Omega.{arith}
 use Rattle.xdr.specs.Bytes.{partOf}
 use Rattle.xdr.specs.Answers.{ofWord}
 use Rattle.compound.specs.declared.answer.Handle.{Handle}
-use Rattle.compound.specs.Status.{STALE, BADHANDLE}
-use Rattle.compound.specs.Operation.{PUTFH}
-use Rattle.compound.specs.Run.{effect, body}
+use Rattle.rules.specs.Status.{STALE, BADHANDLE}
+use Rattle.rules.specs.Operation.{PUTFH}
+use Rattle.rules.specs.Run.{effect, body}
 use Rattle.compound.specs.Runner.{stateOf}
 use Rattle.compound.proofs.HandleOps.{refused-answer, moved-answer, bad-length, no-fault, spelled, stale, file-there}
 use borrow.Author.Needs.{needs}

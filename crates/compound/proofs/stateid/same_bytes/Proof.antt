@@ -2,7 +2,7 @@ use Prim.Native.Nat.{_-_, _≤_}
 use mathlib.Core.Path.{_≡_, refl, sym, _∙_}
 use native.Mathlib.Omega.{arith}
 use lib.ListN.{length, drop}
-use Rattle.compound.specs.Run.{sameBytes}
+use Rattle.rules.specs.Run.{sameBytes}
 use Rattle.compound.proofs.LeafLaws.{lengths-differ, same-more, same-stop, same-end}
 use Rattle.compound.proofs.stateid.same_bytes.Statement.{statement}
 use Rattle.compound.proofs.stateid.same_bytes.Tie as tie

@@ -1,6 +1,6 @@
 use mathlib.Core.Path.{ap, _∙_}
 use borrow.Author.Needs.{needs}
-use Rattle.compound.specs.Run.{zeroStateid}
+use Rattle.rules.specs.Run.{zeroStateid}
 use Rattle.compound.proofs.stateid.zero_stateid.Statement.{statement}
 use Rattle.compound.proofs.stateid.zero_stateid.Tie as tie
 

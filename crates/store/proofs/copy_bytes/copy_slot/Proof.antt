@@ -1,6 +1,6 @@
 use mathlib.Core.Path.{_∙_}
 use native.Mathlib.Omega.{arith}
-use Rattle.store.proofs.GeometryLaws.{good, file-most}
+use Rattle.rules.proofs.GeometryLaws.{good, file-most}
 use Rattle.store.proofs.CopyBytes.{page-lent, share-readable, share-lent, share-fits, copy-share}
 use borrow.Author.Needs.{needs}
 use Rattle.store.proofs.copy_bytes.copy_slot.Statement.{statement}

@@ -1,6 +1,6 @@
 use native.Mathlib.Omega.{arith}
 use borrow.Author.Needs.{needs}
-use Rattle.store.proofs.AllocateLaws.{reserve-local}
+use Rattle.rules.proofs.AllocateLaws.{reserve-local}
 use Rattle.store.proofs.SettleLaws.{saved-pool, plan-settled}
 use Rattle.store.proofs.edit_plans.plan_allocate.Statement.{statement}
 use Rattle.store.proofs.edit_plans.plan_allocate.Tie as tie

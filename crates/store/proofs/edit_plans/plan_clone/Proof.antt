@@ -1,6 +1,6 @@
 use native.Mathlib.Omega.{arith}
 use borrow.Author.Needs.{needs}
-use Rattle.store.proofs.CloneLaws.{share-local}
+use Rattle.rules.proofs.CloneLaws.{share-local}
 use Rattle.store.proofs.SettleLaws.{saved-pool, plan-settled}
 use Rattle.store.proofs.edit_plans.plan_clone.Statement.{statement}
 use Rattle.store.proofs.edit_plans.plan_clone.Tie as tie

@@ -2,7 +2,7 @@ use Prim.Native.Nat.{_+_}
 use mathlib.Core.Path.{refl}
 use native.Mathlib.Omega.{arith}
 use borrow.Author.Needs.{needs}
-use Rattle.store.proofs.DeallocateLaws.{giveBack-local}
+use Rattle.rules.proofs.DeallocateLaws.{giveBack-local}
 use Rattle.store.proofs.SettleLaws.{saved-is, saved-pool, plan-outside, own-stopped, own-settled}
 use Rattle.store.proofs.edit_plans.plan_deallocate.Statement.{statement}
 use Rattle.store.proofs.edit_plans.plan_deallocate.Tie as tie

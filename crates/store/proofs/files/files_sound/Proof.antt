@@ -2,8 +2,8 @@ use Prim.Native.Nat.{_-_}
 use mathlib.Core.Path.{sym, _∙_}
 use native.Mathlib.Omega.{arith}
 use borrow.Author.Tests.{not-true, not-false}
-use Rattle.store.specs.Geometry.{geometryOf}
-use Rattle.store.specs.Sound.{soundFile}
+use Rattle.store.specs.Lent.{geometryOf}
+use Rattle.rules.specs.Sound.{soundFile}
 use Rattle.store.proofs.FileTests.{Passed, passed-none, passed-more, passed-all, failed}
 use Rattle.store.proofs.files.files_sound.Statement.{statement}
 use Rattle.store.proofs.files.files_sound.Tie as tie

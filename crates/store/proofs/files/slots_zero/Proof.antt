@@ -1,7 +1,7 @@
 use mathlib.Core.Path.{_∙_}
 use native.Mathlib.Omega.{arith}
 use borrow.Author.Needs.{needs}
-use Rattle.store.specs.Geometry.{geometryOf}
+use Rattle.store.specs.Lent.{geometryOf}
 use Rattle.store.proofs.FileTests.{slots-tail}
 use Rattle.store.proofs.files.slots_zero.Statement.{statement}
 use Rattle.store.proofs.files.slots_zero.Tie as tie

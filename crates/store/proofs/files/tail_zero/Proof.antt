@@ -3,7 +3,7 @@ use mathlib.Core.Path.{_∙_}
 use native.Mathlib.Omega.{arith}
 use lib.ListN.{length}
 use borrow.Author.Needs.{needs}
-use Rattle.store.specs.Geometry.{geometryOf}
+use Rattle.store.specs.Lent.{geometryOf}
 use Rattle.store.proofs.FileTests.{block-end, hole-tail, block-tail}
 use Rattle.store.proofs.files.tail_zero.Statement.{statement}
 use Rattle.store.proofs.files.tail_zero.Tie as tie

@@ -2,9 +2,9 @@ use native.Mathlib.Omega.{arith}
 use lib.ListN.{length}
 use borrow.Author.Tests.{eq-eqb, ne-eqb}
 use Prim.Native.Nat.{_*_}
-use Rattle.store.specs.Geometry.{geometryOf}
-use Rattle.store.specs.Store.{goodLengths}
-use Rattle.store.proofs.GeometryLaws.{good, slots-all, memory-most}
+use Rattle.store.specs.Lent.{geometryOf}
+use Rattle.rules.specs.Store.{goodLengths}
+use Rattle.rules.proofs.GeometryLaws.{good, slots-all, memory-most}
 use Rattle.store.proofs.geometry.good_lengths.Statement.{statement}
 use Rattle.store.proofs.geometry.good_lengths.Tie as tie
 

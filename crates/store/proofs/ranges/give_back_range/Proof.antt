@@ -1,9 +1,9 @@
 use Prim.Native.Nat.{_-_}
 use mathlib.Core.Path.{refl}
 use native.Mathlib.Omega.{arith}
-use Rattle.store.specs.Geometry.{geometryOf}
-use Rattle.store.specs.Edit.{each}
-use Rattle.store.specs.Deallocate.{whole, giveBack}
+use Rattle.store.specs.Lent.{geometryOf}
+use Rattle.rules.specs.Edit.{each}
+use Rattle.rules.specs.Deallocate.{whole, giveBack}
 use Rattle.store.proofs.RangeLaws.{Ranging, range-start, range-turn, range-end}
 use Rattle.store.proofs.ranges.give_back_range.Statement.{statement}
 use Rattle.store.proofs.ranges.give_back_range.Tie as tie

@@ -1,8 +1,8 @@
 use Prim.Native.Nat.{_+_, _*_, min}
 use native.Mathlib.Omega.{arith}
 use borrow.Author.Tests.{le-leb, lt-leb, lt-ltb, le-ltb}
-use Rattle.store.specs.Geometry.{geometryOf}
-use Rattle.store.specs.Deallocate.{whole}
+use Rattle.store.specs.Lent.{geometryOf}
+use Rattle.rules.specs.Deallocate.{whole}
 use Rattle.store.proofs.RangeLaws.{slot-most, end-of-two}
 use Rattle.store.proofs.ranges.slot_whole.Statement.{statement}
 use Rattle.store.proofs.ranges.slot_whole.Tie as tie

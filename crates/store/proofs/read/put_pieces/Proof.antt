@@ -4,8 +4,8 @@ use mathlib.Core.List.{List}
 use native.Mathlib.Omega.{arith}
 use native.Mathlib.Nat.{le-refl}
 use lib.ListN.{length}
-use Rattle.store.specs.Geometry.{geometryOf}
-use Rattle.store.proofs.GeometryLaws.{good, file-most}
+use Rattle.store.specs.Lent.{geometryOf}
+use Rattle.rules.proofs.GeometryLaws.{good, file-most}
 use Rattle.store.proofs.PlaceLaws.{placed, readable-to}
 use Rattle.store.proofs.ScanLaws.{Left, left-all, left-room, left-on, left-none}
 use Rattle.store.proofs.read.put_pieces.Statement.{statement}

@@ -5,9 +5,9 @@ use native.Mathlib.Nat.{mod-lt}
 use native.Mathlib.Omega.{arith}
 use lib.ListN.{length, take}
 use lib.Seq.{take-all}
-use Rattle.store.specs.Content.{bytesFrom}
-use Rattle.store.specs.Geometry.{geometryOf}
-use Rattle.store.proofs.GeometryLaws.{good, file-most}
+use Rattle.rules.specs.Content.{bytesFrom}
+use Rattle.store.specs.Lent.{geometryOf}
+use Rattle.rules.proofs.GeometryLaws.{good, file-most}
 use Rattle.store.proofs.PlaceLaws.{readable-pos, share-ready, read-on}
 use Rattle.store.proofs.read.read_bytes.Statement.{statement}
 use Rattle.store.proofs.read.read_bytes.Tie as tie

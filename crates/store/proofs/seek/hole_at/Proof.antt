@@ -1,6 +1,6 @@
 use mathlib.Core.Path.{ap}
 use borrow.Author.Needs.{needs}
-use Rattle.store.specs.Store.{isHole}
+use Rattle.rules.specs.Store.{isHole}
 use Rattle.store.proofs.seek.hole_at.Statement.{statement}
 use Rattle.store.proofs.seek.hole_at.Tie as tie
 

@@ -5,10 +5,10 @@ use native.Mathlib.Nat.{div-le-self, div-mul-le-self}
 use native.Mathlib.Omega.{arith}
 use borrow.Author.Needs.{needs}
 use lib.ListN.{getD}
-use Rattle.store.specs.Seek.{seekPlace}
-use Rattle.store.specs.Geometry.{geometryOf}
-use Rattle.store.proofs.GeometryLaws.{good, file-most}
-use Rattle.store.proofs.ReadLaws.{slot-end}
+use Rattle.rules.specs.Seek.{seekPlace}
+use Rattle.store.specs.Lent.{geometryOf}
+use Rattle.rules.proofs.GeometryLaws.{good, file-most}
+use Rattle.rules.proofs.ReadLaws.{slot-end}
 use Rattle.store.proofs.PlaceLaws.{placed-pos}
 use Rattle.store.proofs.ScanLaws.{seek-here, seek-on, seek-past}
 use Rattle.store.proofs.seek.seek_file.Statement.{statement}

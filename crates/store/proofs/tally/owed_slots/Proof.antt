@@ -4,9 +4,9 @@ use native.Mathlib.Numerals.{add-one}
 use native.Mathlib.Omega.{arith}
 use lib.ListN.{length, drop}
 use borrow.Author.Needs.{needs}
-use Rattle.store.specs.Count.{count}
+use Rattle.rules.specs.Count.{count}
 use Rattle.store.specs.Tally.{owesBy}
-use Rattle.store.proofs.CountLaws.{count-drop, count-end}
+use Rattle.rules.proofs.CountLaws.{count-drop, count-end}
 use Rattle.store.proofs.TallyLaws.{count-most}
 use Rattle.store.proofs.tally.owed_slots.Statement.{statement}
 use Rattle.store.proofs.tally.owed_slots.Tie as tie

@@ -5,8 +5,8 @@ use native.Mathlib.Omega.{arith}
 use lib.ListN.{length, drop}
 use lib.Dec.{ltb}
 use borrow.Author.Needs.{needs}
-use Rattle.store.specs.Count.{count}
-use Rattle.store.proofs.CountLaws.{count-drop, count-end}
+use Rattle.rules.specs.Count.{count}
+use Rattle.rules.proofs.CountLaws.{count-drop, count-end}
 use Rattle.store.proofs.TallyLaws.{count-most}
 use Rattle.store.proofs.tally.used_blocks.Statement.{statement}
 use Rattle.store.proofs.tally.used_blocks.Tie as tie

@@ -1,7 +1,7 @@
 use Prim.Native.Nat.{_<_}
 use mathlib.Core.Path.{sym, _∙_}
 use native.Mathlib.Omega.{arith}
-use Rattle.store.specs.Geometry.{geometryOf}
+use Rattle.store.specs.Lent.{geometryOf}
 use Rattle.store.proofs.FileTests.{FileRoom}
 use mathlib.Core.Path.{refl}
 use Rattle.store.proofs.SlotLaws.{slot-known, slot-room, kind-refused, kind-is}

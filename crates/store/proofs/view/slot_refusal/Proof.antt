@@ -1,6 +1,6 @@
 use mathlib.Core.Path.{sym, _∙_}
 use borrow.Author.Tests.{not-true, not-false}
-use Rattle.store.specs.Geometry.{geometryOf}
+use Rattle.store.specs.Lent.{geometryOf}
 use Rattle.store.specs.Tables.{Shaped}
 use Rattle.store.proofs.SlotLaws.{number-1, number-2, number-shaped, number-sound, number-unsound, slot-geometry, slot-lengths, slot-page, slot-unsound, slot-dirty, slot-no-file, slot-no-slot, slot-there}
 use borrow.Author.Needs.{needs}

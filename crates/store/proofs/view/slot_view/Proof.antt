@@ -2,7 +2,7 @@ use mathlib.Core.Path.{refl}
 use lib.ListN.{getD}
 use mathlib.Core.Path.{sym, _∙_}
 use native.Mathlib.Omega.{arith}
-use Rattle.store.specs.Geometry.{geometryOf}
+use Rattle.store.specs.Lent.{geometryOf}
 use Rattle.store.proofs.FileTests.{FileRoom}
 use Prim.Native.Nat.{_+_, _*_, _/_, _<_}
 use Rattle.store.proofs.FileTests.{block-end}

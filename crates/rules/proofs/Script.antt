@@ -1,0 +1,97 @@
+-- Calls and replies of worked examples: F 4, S 16, B 512, no tag, a zero verifier.
+use Prim.Native.Nat.{ℕ}
+use mathlib.Core.List.{List, [], _∷_, _++_, map}
+use lib.ListN.{length, take, replicate}
+use Rattle.xdr.specs.Encode.{u32, concatMap, be, u64, bool, opaque}
+use Rattle.xdr.specs.Bytes.{partOf, splice}
+use Rattle.xdr.specs.Decode.{fixedAt, fixed, number, upTo, padded, opaqueAt, opaqueUpTo}
+use Rattle.rules.specs.Geometry.{Geometry, goodBlockSize, goodGeometry}
+use Rattle.rules.specs.Store.{emptyStore, Store, goodLengths}
+use Rattle.rules.specs.Blocks.{used, owed, lowestFree}
+use Rattle.rules.specs.Content.{byteAt}
+use Rattle.rules.specs.Sound.{soundFile, sound}
+use Rattle.rules.specs.Edit.{owned, own, storeSlot, storeAt}
+use Rattle.rules.specs.Write.{planWrite, writeBytes, editWrite}
+use Rattle.rules.specs.Copy.{planCopy, copyBytes, editCopy}
+use Rattle.rules.specs.Clone.{share, planClone, editClone}
+use Rattle.rules.specs.Allocate.{reserve, planAllocate, editAllocate}
+use Rattle.rules.specs.Deallocate.{whole, giveBack, planGiveBack, stays, planDeallocate, zeroBytes, editDeallocate}
+use Rattle.rules.specs.Read.{join, pieces}
+use Rattle.rules.specs.Seek.{seekFrom}
+use Rattle.rules.specs.Calls.{makeRefusal, madeStore, storeRefusal, usedCount, owedCount, slotRefusal, slotView, slotIsHole}
+use Rattle.rules.specs.Operation.{Op, PUTFH, SAVEFH, WRITE, ALLOCATE, CLONE, requestBytes, itemAt, items, header}
+use Rattle.rules.specs.Serve.{Outcome, replyBytes, compound, served, refusal, serve}
+use Rattle.rules.specs.Claim.{Call, machine, zeroId, answer}
+use Rattle.rules.specs.Run.{errors, effect, readReply, readPlusReply, seekReply, body, perform, reached}
+
+-- a pool of n blocks
+abbrev pub geometry : ℕ → Geometry
+geometry n = record { F = 4; S = 16; N = n; B = 512 }
+
+abbrev pub empty : ℕ → Store
+empty n = emptyStore (geometry n)
+
+abbrev pub call : ℕ → List Op → Call
+call n os = record { geometry = geometry n; verifier = replicate 8 0; request = requestBytes [] os; buffer = replicate 32768 0 }
+
+-- ---- operations, with the all-zero stateid
+
+abbrev pub on : ℕ → Op
+on f = PUTFH (u32 f)
+
+-- the first n bytes of file 0
+abbrev pub allocate : ℕ → List Op
+allocate n = on 0 ∷ ALLOCATE zeroId 0 n ∷ []
+
+abbrev pub write : ℕ → List ℕ → List Op
+write f d = on f ∷ WRITE zeroId 0 2 d ∷ []
+
+-- the first n bytes of file 0 to file 1
+abbrev pub clone : ℕ → List Op
+clone n = on 0 ∷ SAVEFH ∷ on 1 ∷ CLONE zeroId zeroId 0 0 n ∷ []
+
+-- ---- replies
+
+-- the status, no tag, and the results
+abbrev pub replied : ℕ → List (List ℕ) → List ℕ
+replied status results = u32 status ++ u32 0 ++ u32 (length results) ++ concatMap (λ r. r) results
+
+-- operation number, status and body
+abbrev pub result : ℕ → ℕ → List ℕ → List ℕ
+result n status b = u32 n ++ u32 status ++ b
+
+abbrev pub put : List ℕ
+put = result 22 0 []
+
+-- WRITE's body: count, FILE_SYNC4, verifier
+abbrev pub wrote : ℕ → List ℕ
+wrote n = result 38 0 (u32 n ++ u32 2 ++ replicate 8 0)
+
+abbrev pub cloned : ℕ → List ℕ
+cloned status = replied status (put ∷ result 32 0 [] ∷ put ∷ result 71 status [] ∷ [])
+
+-- ---- runs
+
+-- what is told of a call: its reply, and the counts after it
+pub record Told : Type 0 where
+  pub reply : List ℕ
+  pub usedIs : ℕ
+  pub owedIs : ℕ
+
+abbrev pub told : Outcome → Told
+told o = record { reply = take (o .written) (o .reply); usedIs = used (o .store .words); owedIs = owed (o .store .words) }
+
+-- a pool, a list of calls from an empty store, and what is to be told of each
+pub record Run : Type 0 where
+  pub pool : ℕ
+  pub calls : List (List Op)
+  pub answers : List Told
+
+abbrev pub machineTold : Run → List Told
+machineTold r = map told (machine (empty (r .pool)) (map (call (r .pool)) (r .calls)))
+
+-- ---- computing: `unfolding rules` opens every definition of the rules
+
+unfoldable pub rules : Unit {0}
+unfolding partOf splice be u32 u64 bool opaque fixedAt fixed number upTo padded opaqueAt opaqueUpTo goodBlockSize goodGeometry goodLengths emptyStore used owed lowestFree byteAt soundFile sound owned own storeSlot storeAt planWrite writeBytes editWrite planCopy copyBytes editCopy share planClone editClone reserve planAllocate editAllocate whole giveBack planGiveBack stays planDeallocate zeroBytes editDeallocate join pieces seekFrom makeRefusal madeStore storeRefusal usedCount owedCount slotRefusal slotView slotIsHole itemAt items header requestBytes errors effect readReply readPlusReply seekReply body perform reached replyBytes compound served refusal serve answer machine
+rules = tt

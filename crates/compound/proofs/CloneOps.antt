@@ -11,29 +11,26 @@ use lib.ListN.{length, getD}
 use lib.Dec.{leb, ltb, eqb}
 use Rattle.xdr.specs.Bytes.{partOf, Written}
 use Rattle.xdr.specs.Encode.{u32}
-use Rattle.rules.specs.Geometry.{Geometry}
-use Rattle.rules.specs.Store.{Store}
-use Rattle.store.specs.Tables.{Shaped}
-use Rattle.rules.specs.Calls.{first}
-use Rattle.store.specs.Plan.{Counted}
-use Rattle.store.specs.Edits.{EditKnown, EditPromise, CopyKnown, CloneKnown}
-use Rattle.rules.specs.Clone.{editClone, overlap, uneven}
-use Rattle.rules.specs.Copy.{sourceCount, editCopy}
+use Rattle.rules.specs.Lists.{first}
+use Rattle.rules.specs.Store.{Geometry, Store}
+use Rattle.rules.specs.Edit.{edited, cloning, copying}
+use Rattle.rules.specs.Operation.{INVAL, FBIG, NOSPC, NOFILEHANDLE, BAD-STATEID, Op, opNumber, copyResult, fileSync}
+use Rattle.rules.specs.Run.{overlap, uneven, sourceCount, State, noFile, readStateid, zeroStateid, errors, effect, body, perform, config, does}
 use Rattle.rules.proofs.GeometryLaws.{good, block-pos, lengths}
 use Rattle.rules.proofs.SoundLaws.{sound-facts}
 use Rattle.rules.proofs.BoolLaws.{or-inl, or-inr}
 use Rattle.rules.proofs.FirstLaws.{all-clear}
+use Rattle.rules.proofs.ErrorLaws.{copy-clear, clone-clear}
+use Rattle.store.specs.Tables.{Shaped}
+use Rattle.store.specs.Plan.{Counted}
+use Rattle.store.specs.Edits.{EditKnown, EditPromise, CopyKnown, CloneKnown}
 use Rattle.compound.specs.declared.answer.Handle.{Handle}
 use Rattle.compound.specs.declared.answer.Answer.{Answer}
 use Rattle.compound.specs.declared.operation.CloneArgs.{CloneArgs}
 use Rattle.compound.specs.declared.operation.CopyArgs.{CopyArgs}
 use Rattle.compound.specs.declared.operation.Operation.{Operation}
-use Rattle.rules.specs.Status.{INVAL, FBIG, NOSPC, NOFILEHANDLE, BAD-STATEID}
-use Rattle.rules.specs.Operation.{Op, opNumber}
 use Rattle.compound.specs.Decoded.{meaning}
-use Rattle.rules.specs.Run.{State, noFile, readStateid, zeroStateid, errors, effect, copyResult, fileSync, body, perform}
 use Rattle.compound.specs.Runner.{fileIn, Done, Bare, Answered}
-use Rattle.rules.proofs.StepLaws.{Ready, source-fits, clone-tests}
 use Rattle.compound.proofs.RunLaws.{edit-failed, edit-full, edit-done, failed-answer, plain-answer, body-answer}
 
 -- ---- the first error
@@ -81,52 +78,18 @@ file-in {g} {st} h l = (omega (arith, lengths g st (h .lengths) .files), omega (
 abbrev pair : ℕ → ℕ → Store → State
 pair e f st = record { current = some f; saved = some e; store = st }
 
-room : (m o k : ℕ) → ltb 0 k && ltb m (o + k) ≡ false → 0 < k → o + k ≤ m
-room m o k e l = ltb-false m (o + k) (rw (lt-ltb 0 k l) at e)
-
-some-is : (f e : ℕ) → _≡_ {A = Option ℕ} (some f) (some e) → f ≡ e
-some-is f e p = cc
-
 module _ {g : Geometry} {st : Store} {counts : List ℕ} {e f : ℕ} (known : EditKnown g st counts f) (source : e < g .F) (s : List ℕ) where
-  pos : 0 < g .B
-  pos = block-pos (good g (known .shaped .geometry))
-
-  ready : Ready g (pair e f st)
-  ready = record {
-    sound = sound-facts g pos st (known .shaped .lengths) (known .sound);
-    current = λ h q. rw (← some-is f h q) (known .file);
-    saved = λ h q. rw (← some-is e h q) source;
-  }
-
   pub copy-known : (a : CopyArgs) {k : ℕ} → k ≡ sourceCount st e (a .clone .from) (a .clone .count)
       → {r : ℕ} → Found g (st .sizes) e f (meaning s (Operation.Copy a)) r → r ≡ 0 → CopyKnown g st counts e f (a .clone .from) (a .clone .to) k
-  unfolding errors
   copy-known a count found clear =
-      let c = all-clear (errors g (pair e f st) (meaning s (Operation.Copy a))) refl (sym (found (pair e f st) refl refl refl) ∙ clear) in
-      record {
-        known = known;
-        source = record {
-          file = source;
-          other = eqb-false e f (c .1 .1 .0);
-          inside = rw count (source-fits g pos (pair e f st) ready e (a .clone .from) (a .clone .count) (c .1 .1 .1 .0));
-        };
-        fits = rw count (room (g .S * g .B) (a .clone .to) (sourceCount st e (a .clone .from) (a .clone .count)) (c .1 .1 .1 .1 .1 .0));
-      }
+      let c = copy-clear g (pair e f st) _ _ (a .clone .from) (a .clone .to) (a .clone .count) _ _ (sym (found (pair e f st) refl refl refl) ∙ clear) in
+      rw count (record { known = known; source = record { file = source; other = c .other; inside = c .inside }; fits = c .fits })
 
   pub clone-known : (a : CloneArgs) {k : ℕ} → k ≡ sourceCount st e (a .from) (a .count)
       → {r : ℕ} → Found g (st .sizes) e f (meaning s (Operation.Clone a)) r → r ≡ 0 → CloneKnown g st counts e f (a .from) (a .to) k
-  unfolding errors
   clone-known a count found clear =
-      let c = all-clear (errors g (pair e f st) (meaning s (Operation.Clone a))) refl (sym (found (pair e f st) refl refl refl) ∙ clear) in
-      let t = clone-tests g pos (pair e f st) ready refl refl (a .from) (a .to) (sourceCount st e (a .from) (a .count)) (c .1 .1 .1 .0) (c .1 .1 .1 .1 .0) in
-      record {
-        known = known;
-        source = source;
-        source-even = t .se;
-        target-even = t .de;
-        inside = rw count (source-fits g pos (pair e f st) ready e (a .from) (a .count) (c .1 .1 .0));
-        fits = rw count (room (g .S * g .B) (a .to) (sourceCount st e (a .from) (a .count)) (c .1 .1 .1 .1 .1 .1 .0));
-      }
+      let c = clone-clear g (pair e f st) _ _ (a .from) (a .to) (a .count) (sym (found (pair e f st) refl refl refl) ∙ clear) in
+      rw count (record { known = known; source = source; source-even = c .source-even; target-even = c .target-even; inside = c .inside; fits = c .fits })
 
 -- ---- the status
 
@@ -135,19 +98,19 @@ abbrev pub Leaves : Geometry → Store → ℕ → ℕ → Op → Store → Type
 Leaves g st e f o planned = (x : State) → x .saved ≡ some e → x .current ≡ some f → x .store ≡ st → effect g x o .store ≡ planned
 
 pub copy-leaves : (g : Geometry) (st : Store) {e f : ℕ} (s : List ℕ) (a : CopyArgs) {k : ℕ} → k ≡ sourceCount st e (a .clone .from) (a .clone .count)
-    → Leaves g st e f (meaning s (Operation.Copy a)) (editCopy g st e f (a .clone .from) (a .clone .to) k)
-unfolding effect
+    → Leaves g st e f (meaning s (Operation.Copy a)) (edited g st (copying f (a .clone .to) (a .clone .to + k) e (a .clone .from)))
+unfolding effect does
 copy-leaves g st s a count x saved current same = rw (count, saved, current, same)
 
 pub clone-leaves : (g : Geometry) (st : Store) {e f : ℕ} (s : List ℕ) (a : CloneArgs) {k : ℕ} → k ≡ sourceCount st e (a .from) (a .count)
-    → Leaves g st e f (meaning s (Operation.Clone a)) (editClone g st e f (a .from) (a .to) k)
-unfolding effect
+    → Leaves g st e f (meaning s (Operation.Clone a)) (edited g st (cloning f (a .to) (a .to + k) e (a .from)))
+unfolding effect does
 clone-leaves g st s a count x saved current same = rw (count, saved, current, same)
 
 -- what the status's function promises
 abbrev pub Ends : Geometry → Store → ℕ → ℕ → Op → ℕ → Store → List ℕ → Type 0
 Ends g st e f o r after counts =
-    (v : List ℕ) (x : State) (next : ℕ) → x .saved ≡ some e → x .current ≡ some f → x .store ≡ st → Done (perform g v x o next) r after counts
+    (v : List ℕ) (x : State) (next : ℕ) → x .saved ≡ some e → x .current ≡ some f → x .store ≡ st → Done (perform (config g v) x o next) r after counts
 
 module _ (g : Geometry) {st : Store} {e f : ℕ} (o : Op) {r : ℕ} (found : Found g (st .sizes) e f o r) where
   error-is : (x : State) → x .saved ≡ some e → x .current ≡ some f → x .store ≡ st → first (errors g x o) ≡ r
@@ -174,11 +137,11 @@ pub record Pairs (g : Geometry) (x : State) (o : Op) : Type 0 where
   pub saved-stays : effect g x o .saved ≡ x .saved
 
 pub copy-pairs : {g : Geometry} {x : State} (s : List ℕ) (a : CopyArgs) → Pairs g x (meaning s (Operation.Copy a))
-unfolding errors effect
+unfolding errors effect does
 copy-pairs s a = record { missing = λ e. rw e; current-stays = refl; saved-stays = refl }
 
 pub clone-pairs : {g : Geometry} {x : State} (s : List ℕ) (a : CloneArgs) → Pairs g x (meaning s (Operation.Clone a))
-unfolding errors effect
+unfolding errors effect does
 clone-pairs s a = record { missing = λ e. rw e; current-stays = refl; saved-stays = refl }
 
 no-pair : (u w : Option ℕ) → (u ≡ none) ⊎ (w ≡ none) → noFile u || noFile w ≡ true
@@ -189,7 +152,7 @@ module _ {g : Geometry} (v : List ℕ) {x : State} {o : Op} (p : Pairs g x o) {c
   -- one of the handles names no file
   pub pair-missing : {r : Answer} → Counted (x .store .words) counts → (x .saved ≡ none) ⊎ (x .current ≡ none) → {current saved : Handle} → fileIn current ≡ x .current
       → fileIn saved ≡ x .saved → Bare (opNumber o) NOFILEHANDLE current saved r at before reply
-      → (next : ℕ) → Answered (perform g v x o next) r (x .store) counts at before reply
+      → (next : ℕ) → Answered (perform (config g v) x o next) r (x .store) counts at before reply
   pair-missing c m {current} {saved} current-is saved-is b next =
       let n : NOFILEHANDLE ≢ 0 = λ q. omega (arith, q) in
       failed-answer g v x o next current saved current-is saved-is (p .current-stays) (p .saved-stays)
@@ -198,27 +161,27 @@ module _ {g : Geometry} (v : List ℕ) {x : State} {o : Op} (p : Pairs g x o) {c
   -- the source is file e, the target file f
   module _ {e f status : ℕ} {after : Store} (ends : Ends g (x .store) e f o status after counts) (saved : x .saved ≡ some e) (current : x .current ≡ some f) where
     pub pair-failed : {r : Answer} → status ≢ 0 → Bare (opNumber o) status (Handle.File f) (Handle.File e) r at before reply
-        → (next : ℕ) → Answered (perform g v x o next) r after counts at before reply
+        → (next : ℕ) → Answered (perform (config g v) x o next) r after counts at before reply
     pair-failed n b next =
         failed-answer g v x o next (Handle.File f) (Handle.File e) (sym current) (sym saved) (p .current-stays) (p .saved-stays) (ends v x next saved current refl) n b
 
     pub pair-plain : {r : Answer} → body g v x o ≡ [] → Bare (opNumber o) status (Handle.File f) (Handle.File e) r at before reply
-        → (next : ℕ) → Answered (perform g v x o next) r after counts at before reply
+        → (next : ℕ) → Answered (perform (config g v) x o next) r after counts at before reply
     pair-plain h b next =
         plain-answer g v x o next (Handle.File f) (Handle.File e) (sym current) (sym saved) (p .current-stays) (p .saved-stays) (ends v x next saved current refl) h b
 
     pub pair-body : status ≡ 0 → {b mid : List ℕ} {m place end : ℕ} → body g v x o ≡ b → at ≤ length before
         → Written (u32 (opNumber o) ++ u32 0) 8 at before mid place → Written b m place mid reply end
-        → (next : ℕ) → Answered (perform g v x o next) (record { status = 0; next = end; current = Handle.File f; saved = Handle.File e }) after counts at before reply
+        → (next : ℕ) → Answered (perform (config g v) x o next) (record { status = 0; next = end; current = Handle.File f; saved = Handle.File e }) after counts at before reply
     pair-body z h l w b next =
         body-answer g v x o next (Handle.File f) (Handle.File e) (sym current) (sym saved) (p .current-stays) (p .saved-stays) (rw z at (ends v x next saved current refl)) h l w b
 
 pub copy-body : (g : Geometry) (v : List ℕ) (x : State) {e : ℕ} → x .saved ≡ some e → (s : List ℕ) (a : CopyArgs) {k : ℕ}
     → k ≡ sourceCount (x .store) e (a .clone .from) (a .clone .count)
     → body g v x (meaning s (Operation.Copy a)) ≡ copyResult .write (0, (k, (fileSync, (v, (true, true)))))
-unfolding body
+unfolding body does
 copy-body g v x saved s a count = rw (count, saved)
 
 pub clone-body : (g : Geometry) (v : List ℕ) (x : State) (s : List ℕ) (a : CloneArgs) → body g v x (meaning s (Operation.Clone a)) ≡ []
-unfolding body
+unfolding body does
 clone-body g v x s a = refl

@@ -13,8 +13,7 @@ use Rattle.xdr.specs.Decode.{Parsed, got, fault, stop, Reader, number, upTo, fi
 use Rattle.xdr.specs.Answers.{ofBytes}
 use Rattle.xdr.specs.Layout.{Layout, boolean, _then_}
 use Rattle.compound.specs.declared.decode.CloneAnswer.{CloneAnswer}
-use Rattle.rules.specs.Status.{NOTSUPP, BADXDR, OP-ILLEGAL, SEQUENCE-POS}
-use Rattle.rules.specs.Operation.{Op, COPY, op, bad, argsOf, argsItem, reading, readingCopy, five, copyArgs, numberItem, unserved, itemAt, header, headerLayout}
+use Rattle.rules.specs.Operation.{NOTSUPP, BADXDR, OP-ILLEGAL, SEQUENCE-POS, Op, COPY, op, bad, argsItem, reading, readingCopy, five, copyArgs, numberItem, unserved, itemAt, header, headerLayout, readers, find}
 use Rattle.compound.specs.Decoded.{ofHandle, ofCloneArgs, cloneStop}
 
 -- ---- one field
@@ -100,7 +99,7 @@ NoneOf n (k ∷ ks) = NoneOf n ks × (n ≡ k → ⊥)
 abbrev pub servedNumbers : List ℕ
 servedNumbers = 71 ∷ 69 ∷ 68 ∷ 62 ∷ 60 ∷ 59 ∷ 38 ∷ 32 ∷ 31 ∷ 25 ∷ 22 ∷ 10 ∷ []
 
-no-args : (n : ℕ) → NoneOf n servedNumbers → argsOf n ≡ none
+no-args : (n : ℕ) → NoneOf n servedNumbers → find n readers ≡ none
 no-args n ((((((((((((u, a), b), c), d), e), f), g), h), i), j), k), l) =
     rw (ne-eqb n 10 a, ne-eqb n 22 b, ne-eqb n 25 c, ne-eqb n 31 d, ne-eqb n 32 e, ne-eqb n 38 f, ne-eqb n 59 g, ne-eqb n 60 h, ne-eqb n 62 i, ne-eqb n 68 j, ne-eqb n 69 k, ne-eqb n 71 l)
 

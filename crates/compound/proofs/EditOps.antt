@@ -12,20 +12,16 @@ use lib.Dec.{ltb}
 use Rattle.xdr.specs.declared.bytes.Span.{Span}
 use Rattle.xdr.specs.Bytes.{partOf, Written}
 use Rattle.xdr.specs.Encode.{u32}
-use Rattle.rules.specs.Geometry.{Geometry}
-use Rattle.rules.specs.Store.{Store}
-use Rattle.rules.specs.Calls.{first}
-use Rattle.rules.specs.Write.{editWrite}
-use Rattle.rules.specs.Allocate.{editAllocate}
-use Rattle.rules.specs.Deallocate.{editDeallocate}
-use Rattle.store.specs.Edits.{EditKnown, WriteKnown, RegionKnown}
-use Rattle.rules.proofs.FirstLaws.{all-clear}
+use Rattle.rules.specs.Lists.{first}
+use Rattle.rules.specs.Store.{Geometry, Store}
+use Rattle.rules.specs.Edit.{edited, allocating, deallocating, writing}
+use Rattle.rules.specs.Operation.{NOFILEHANDLE, Op, WRITE, ALLOCATE, DEALLOCATE, opNumber, writeResult, fileSync}
+use Rattle.rules.specs.Run.{State, Event, noFile, errors, effect, body, perform, config, does}
+use Rattle.rules.proofs.ErrorLaws.{write-clear, allocate-clear, deallocate-clear}
 use Rattle.rules.proofs.GeometryLaws.{good, lengths}
+use Rattle.store.specs.Edits.{EditKnown, WriteKnown, RegionKnown}
 use Rattle.compound.specs.declared.answer.Handle.{Handle}
 use Rattle.compound.specs.declared.answer.Answer.{Answer}
-use Rattle.rules.specs.Status.{NOFILEHANDLE}
-use Rattle.rules.specs.Operation.{Op, WRITE, ALLOCATE, DEALLOCATE, opNumber}
-use Rattle.rules.specs.Run.{State, Event, noFile, errors, effect, body, writeResult, fileSync, perform}
 use Rattle.compound.specs.Runner.{fileIn, stateOf, Runs, Done, Bare, Answered}
 use Rattle.compound.proofs.RunLaws.{edit-failed, failed-answer, plain-answer, body-answer}
 
@@ -43,9 +39,6 @@ has-file e = ap noFile e
 
 -- ---- what an edit asks
 
-fits-from : (g : Geometry) (o n : ℕ) → (ltb 0 n && ltb (g .S * g .B) (o + n)) ≡ false → 0 < n → o + n ≤ g .S * g .B
-fits-from g o n h l = ltb-false (g .S * g .B) (o + n) (rw (lt-ltb 0 n l) at h)
-
 -- where a file is current, e is the operation's first error
 module _ {g : Geometry} {st : Store} {counts : List ℕ} {f : ℕ} (k : EditKnown g st counts f) {e : ℕ} (ok : e ≡ 0) where
   abbrev opened : State
@@ -58,23 +51,15 @@ module _ {g : Geometry} {st : Store} {counts : List ℕ} {f : ℕ} (k : EditKnow
   clear o told = sym (told opened refl) ∙ ok
 
   pub write-known : (i : List ℕ) (o s : ℕ) (d : List ℕ) {part : List ℕ} → part ≡ d → Told (WRITE i o s d) → WriteKnown g st counts f o (length part)
-  unfolding errors
-  write-known i o s d is told =
-      let c = all-clear (errors g opened (WRITE i o s d)) refl (clear (WRITE i o s d) told) in
-      rw is record { known = k; fits = fits-from g o (length d) (c .1 .1 .1 .0) }
+  write-known i o s d is told = rw is record { known = k; fits = write-clear g opened i o s d (clear (WRITE i o s d) told) .fits }
 
   pub allocate-known : (i : List ℕ) (o n : ℕ) → Told (ALLOCATE i o n) → RegionKnown g st counts f o (o + n)
-  unfolding errors
   allocate-known i o n told =
-      let c = all-clear (errors g opened (ALLOCATE i o n)) refl (clear (ALLOCATE i o n) told) in
-      let l : 0 < n = omega (arith, eqb-false n 0 (c .1 .1 .1 .0)) in
-      record { known = k; some = omega arith; fits = fits-from g o n (c .1 .1 .1 .1 .0) l }
+      let c = allocate-clear g opened i o n (clear (ALLOCATE i o n) told) in
+      record { known = k; some = omega (arith, c .some-byte); fits = c .fits }
 
   pub deallocate-sum : (i : List ℕ) (o n : ℕ) → Told (DEALLOCATE i o n) → o + n < 2 ^ 64
-  unfolding errors
-  deallocate-sum i o n told =
-      let c = all-clear (errors g opened (DEALLOCATE i o n)) refl (clear (DEALLOCATE i o n) told) in
-      leb-false (2 ^ 64) (o + n) (c .1 .1 .0)
+  deallocate-sum i o n told = deallocate-clear g opened i o n (clear (DEALLOCATE i o n) told) .sum
 
 -- a file's place in the table of sizes
 module _ {g : Geometry} {st : Store} {counts : List ℕ} {f : ℕ} (k : EditKnown g st counts f) where
@@ -88,17 +73,17 @@ module _ {g : Geometry} {st : Store} {counts : List ℕ} {f : ℕ} (k : EditKnow
 
 module _ (g : Geometry) (x : State) {f : ℕ} {st : Store} (current : x .current ≡ some f) (same : x .store ≡ st) where
   pub write-leaves : (i : List ℕ) (o s : ℕ) (d : List ℕ) {part : List ℕ} → part ≡ d
-      → effect g x (WRITE i o s d) .store ≡ editWrite g st f o (o + length part) (λ p. getD part (p - o) 0)
-  unfolding effect
+      → effect g x (WRITE i o s d) .store ≡ edited g st (writing f o (o + length part) (λ p. getD part (p - o) 0))
+  unfolding effect does
   write-leaves i o s d e = rw (current, same, e)
 
-  pub allocate-leaves : (i : List ℕ) (o n : ℕ) → effect g x (ALLOCATE i o n) .store ≡ editAllocate g st f o (o + n)
-  unfolding effect
+  pub allocate-leaves : (i : List ℕ) (o n : ℕ) → effect g x (ALLOCATE i o n) .store ≡ edited g st (allocating f o (o + n))
+  unfolding effect does
   allocate-leaves i o n = rw (current, same)
 
   pub deallocate-leaves : (i : List ℕ) (o n : ℕ) {end : ℕ} → end ≡ min (o + n) (getD (st .sizes) f 0)
-      → effect g x (DEALLOCATE i o n) .store ≡ editDeallocate g st f o end
-  unfolding effect
+      → effect g x (DEALLOCATE i o n) .store ≡ edited g st (deallocating f o end)
+  unfolding effect does
   deallocate-leaves i o n e = rw (current, same, e)
 
 -- ---- the answer
@@ -111,15 +96,15 @@ pub record OnFile (g : Geometry) (x : State) (o : Op) : Type 0 where
 
 module _ (g : Geometry) (x : State) where
   pub write-on : (i : List ℕ) (o s : ℕ) (d : List ℕ) → OnFile g x (WRITE i o s d)
-  unfolding errors effect
+  unfolding errors effect does
   write-on i o s d = record { refused = λ e. rw e; current-stays = refl; saved-stays = refl }
 
   pub allocate-on : (i : List ℕ) (o n : ℕ) → OnFile g x (ALLOCATE i o n)
-  unfolding errors effect
+  unfolding errors effect does
   allocate-on i o n = record { refused = λ e. rw e; current-stays = refl; saved-stays = refl }
 
   pub deallocate-on : (i : List ℕ) (o n : ℕ) → OnFile g x (DEALLOCATE i o n)
-  unfolding errors effect
+  unfolding errors effect does
   deallocate-on i o n = record { refused = λ e. rw e; current-stays = refl; saved-stays = refl }
 
 module _ (g : Geometry) (v : List ℕ) (current saved : Handle) (st : Store) (o : Op) (next : ℕ) where
@@ -127,7 +112,7 @@ module _ (g : Geometry) (v : List ℕ) (current saved : Handle) (st : Store) (o 
   here = stateOf current saved st
 
   abbrev pub event : Event
-  event = perform g v here o next
+  event = perform (config g v) here o next
 
   module _ (on : OnFile g here o) {at : ℕ} {before reply : List ℕ} where
     -- no file is current
@@ -160,7 +145,7 @@ module _ (g : Geometry) (v : List ℕ) (current saved : Handle) (st : Store) (o 
 
 pub write-body : (g : Geometry) (v : List ℕ) (x : State) (i : List ℕ) (o s : ℕ) (d : List ℕ) {part : List ℕ} → part ≡ d
     → body g v x (WRITE i o s d) ≡ writeResult .write (length part, (fileSync, v))
-unfolding body
+unfolding body does
 write-body g v x i o s d e = rw e
 
 pub part-few : (s : List ℕ) (d : Span) {part : List ℕ} → part ≡ partOf s d → length s ≤ 65536 → length part ≤ 65536

@@ -14,10 +14,11 @@ use Rattle.xdr.specs.Decode.{Parsed, got, fault, value, number}
 use Rattle.xdr.specs.Encode.{be, u32, opaque}
 use Rattle.xdr.proofs.BytesLaws.{written-then}
 use Rattle.xdr.proofs.DecodeLaws.{number-there}
-use Rattle.rules.specs.Geometry.{Geometry}
-use Rattle.rules.specs.Store.{Store}
-use Rattle.rules.specs.Blocks.{need}
-use Rattle.rules.specs.Calls.{first}
+use Rattle.rules.specs.Lists.{first}
+use Rattle.rules.specs.Store.{Geometry, Store, need}
+use Rattle.rules.specs.Operation.{STALE, BADHANDLE, NOFILEHANDLE, Op, GETFH, PUTFH, Item, op, bad, opNumber, itemAt}
+use Rattle.rules.specs.Run.{State, noFile, fileOf, failed, errors, effect, body, perform, config, does, countedAfter}
+use Rattle.rules.specs.Calls.{placeAfter}
 use Rattle.store.specs.Plan.{Counted}
 use Rattle.rules.proofs.GeometryLaws.{good, block-pos}
 use Rattle.rules.proofs.SoundLaws.{sound-facts}
@@ -25,18 +26,14 @@ use Rattle.compound.specs.declared.answer.Handle.{Handle}
 use Rattle.compound.specs.declared.answer.Answer.{Answer}
 use Rattle.compound.specs.declared.operation.Operation.{Operation}
 use Rattle.compound.specs.declared.run.Progress.{Progress}
-use Rattle.rules.specs.Status.{STALE, BADHANDLE, NOFILEHANDLE}
-use Rattle.rules.specs.Operation.{Op, GETFH, PUTFH, Item, op, bad, opNumber, itemAt}
 use Rattle.compound.specs.Decoded.{meaning}
-use Rattle.rules.specs.Run.{State, noFile, fileOf, failed, errors, effect, body, perform}
-use Rattle.rules.specs.Serve.{placeAfter}
 use Rattle.compound.specs.Runner.{fileIn, stateOf, Known, Done, Bare, Answered, eventAt, Turned}
 use Rattle.compound.proofs.RunLaws.{perform-failed, perform-done, perform-item, bare-written, body-answer}
 
 -- ---- what is known of the state
 
 -- a sound store has room for what it holds
-has-room : (g : Geometry) (x : State) → Known g x → need (x .store) ≤ g .N
+has-room : (g : Geometry) (x : State) → Known g x → need (x .store .words) ≤ g .N
 has-room g x k = sound-facts g (block-pos (good g (k .shaped .geometry))) (x .store) (k .shaped .lengths) (k .sound) .room
 
 -- a file's number is a handle of four bytes
@@ -52,7 +49,7 @@ has-handle u e = rw e
 module _ (g : Geometry) (v : List ℕ) (current saved : Handle) (st : Store) (o : Op) (next : ℕ) {counts : List ℕ} (counted : Counted (st .words) counts) where
   -- an error: nothing changes
   pub refused-answer : (e : ℕ) {r : Answer} {at : ℕ} {before reply : List ℕ} → first (errors g (stateOf current saved st) o) ≡ e → e ≢ 0
-      → Bare (opNumber o) e current saved r at before reply → Answered (perform g v (stateOf current saved st) o next) r st counts at before reply
+      → Bare (opNumber o) e current saved r at before reply → Answered (perform (config g v) (stateOf current saved st) o next) r st counts at before reply
   refused-answer e h n b = rw (perform-failed g v (stateOf current saved st) o next e h n) (record {
     done = record { status-is = b .status-is; sizes-are = refl; words-are = refl; mem-is = refl; counted = counted };
     current-is = ap fileIn (b .current-is);
@@ -63,16 +60,16 @@ module _ (g : Geometry) (v : List ℕ) (current saved : Handle) (st : Store) (o 
   -- the one handle that is asked for names no file
   pub no-handle : (u : Handle) {r : Answer} {at : ℕ} {before reply : List ℕ} → errors g (stateOf current saved st) o ≡ (noFile (fileIn u), NOFILEHANDLE) ∷ []
       → u ≡ Handle.Nothing → Bare (opNumber o) NOFILEHANDLE current saved r at before reply
-      → Answered (perform g v (stateOf current saved st) o next) r st counts at before reply
+      → Answered (perform (config g v) (stateOf current saved st) o next) r st counts at before reply
   no-handle u e h b = refused-answer NOFILEHANDLE (rw (e, h)) (λ q. omega (arith, q)) b
 
   -- no error and no body: the handles are new
   pub moved-answer : {current′ saved′ : Handle} {r : Answer} {at : ℕ} {before reply : List ℕ} → Known g (stateOf current saved st)
       → Bare (opNumber o) 0 current′ saved′ r at before reply → first (errors g (stateOf current saved st) o) ≡ 0
       → effect g (stateOf current saved st) o ≡ stateOf current′ saved′ st → body g v (stateOf current saved st) o ≡ []
-      → Answered (perform g v (stateOf current saved st) o next) r st counts at before reply
+      → Answered (perform (config g v) (stateOf current saved st) o next) r st counts at before reply
   moved-answer {current′} {saved′} k b h e n =
-      rw (perform-done g v (stateOf current saved st) o next h (rw e (has-room g (stateOf current saved st) k)), e) (record {
+      rw (perform-done g v (stateOf current saved st) o next h (rw (e, countedAfter) (has-room g (stateOf current saved st) k)), e) (record {
         done = record { status-is = b .status-is; sizes-are = refl; words-are = refl; mem-is = refl; counted = counted };
         current-is = ap fileIn (b .current-is);
         saved-is = ap fileIn (b .saved-is);
@@ -83,9 +80,9 @@ module _ (g : Geometry) (v : List ℕ) (current saved : Handle) (st : Store) (o 
 
   -- no error, and the state stays
   stays : Known g (stateOf current saved st) → first (errors g (stateOf current saved st) o) ≡ 0 → effect g (stateOf current saved st) o ≡ stateOf current saved st
-      → Done (perform g v (stateOf current saved st) o next) 0 st counts
+      → Done (perform (config g v) (stateOf current saved st) o next) 0 st counts
   stays k h e =
-      rw (perform-done g v (stateOf current saved st) o next h (rw e (has-room g (stateOf current saved st) k)), e)
+      rw (perform-done g v (stateOf current saved st) o next h (rw (e, countedAfter) (has-room g (stateOf current saved st) k)), e)
       (record { status-is = refl; sizes-are = refl; words-are = refl; mem-is = refl; counted = counted })
 
 -- ---- GETFH
@@ -98,8 +95,8 @@ handle-bytes f = refl
 module _ (g : Geometry) (v : List ℕ) (current saved : Handle) (st : Store) (next : ℕ) {counts : List ℕ} (counted : Counted (st .words) counts) where
   pub get-answer : {f at p q n : ℕ} {before y z reply : List ℕ} → Known g (stateOf current saved st) → current ≡ Handle.File f → at ≤ length before → p ≤ length y
       → Written (u32 10 ++ u32 0) 8 at before y p → Written (u32 4) 4 p y z q → Written (u32 f) 4 q z reply n
-      → Answered (perform g v (stateOf current saved st) GETFH next) (record { status = 0; next = n; current = Handle.File f; saved = saved }) st counts at before reply
-  unfolding errors effect body
+      → Answered (perform (config g v) (stateOf current saved st) GETFH next) (record { status = 0; next = n; current = Handle.File f; saved = saved }) st counts at before reply
+  unfolding errors effect body does
   get-answer {f} k e h l w w1 w2 =
       body-answer g v (stateOf current saved st) GETFH next (Handle.File f) saved (sym (ap fileIn e)) refl refl refl
       (stays g v current saved st GETFH next counted k (has-handle current e) refl)
@@ -150,14 +147,14 @@ module _ (h b : List ℕ) (same : b ≡ h) where
 
 -- an arm: the code's operation o is o′
 pub by-case : (g : Geometry) (v : List ℕ) (x : State) (s : List ℕ) {o o′ : Operation} {r : Answer} {after : Store} {counts : List ℕ} {at : ℕ} {before reply : List ℕ}
-    → o ≡ o′ → ((next : ℕ) → Answered (perform g v x (meaning s o′) next) r after counts at before reply)
-    → (next : ℕ) → Answered (perform g v x (meaning s o) next) r after counts at before reply
+    → o ≡ o′ → ((next : ℕ) → Answered (perform (config g v) x (meaning s o′) next) r after counts at before reply)
+    → (next : ℕ) → Answered (perform (config g v) x (meaning s o) next) r after counts at before reply
 by-case g v x s e t = rw e t
 
 -- the run after an operation that was answered
 pub stepped : (g : Geometry) (v : List ℕ) (x : State) (o : Op) (next : ℕ) (r : Progress) {a : Answer} {after : Store} {counts before reply : List ℕ}
-    → Answered (perform g v x o next) a after counts (r .out) before reply
-    → Turned (perform g v x o next) r (record { status = a .status; count = r .count + 1; read = next; out = a .next; current = a .current; saved = a .saved }) after counts before reply
+    → Answered (perform (config g v) x o next) a after counts (r .out) before reply
+    → Turned (perform (config g v) x o next) r (record { status = a .status; count = r .count + 1; read = next; out = a .next; current = a .current; saved = a .saved }) after counts before reply
 stepped g v x o next r a = record {
   done = a .done;
   count-is = refl;
@@ -170,8 +167,8 @@ stepped g v x o next r a = record {
 -- and after the item i that stands at place `at`
 pub turned : (g : Geometry) (v : List ℕ) (x : State) (s : List ℕ) (at : ℕ) {i : Item} {r r′ : Progress} {after : Store} {counts before reply : List ℕ}
     → i ≡ itemAt s at
-    → Turned (elim i [ op o next ↦ perform g v x o next | bad k e ↦ failed (bad k e) x e ]) r r′ after counts before reply
+    → Turned (elim i [ op o next ↦ perform (config g v) x o next | bad k e ↦ failed (bad k e) x e ]) r r′ after counts before reply
     → Turned (eventAt g v x s at) r r′ after counts before reply
 unfolding eventAt
 turned g v x s at {i} {r} {r′} {after} {counts} {before} {reply} e t =
-    subst (λ (i : Item). Turned (elim i [ op o next ↦ perform g v x o next | bad k e ↦ failed (bad k e) x e ]) r r′ after counts before reply) e t
+    subst (λ (i : Item). Turned (elim i [ op o next ↦ perform (config g v) x o next | bad k e ↦ failed (bad k e) x e ]) r r′ after counts before reply) e t

@@ -13,14 +13,12 @@ use lib.Dec.{leb, ltb, eqb}
 use Rattle.xdr.specs.Bytes.{Written}
 use Rattle.xdr.specs.Encode.{u32}
 use Rattle.xdr.proofs.BytesLaws.{length-splice, written-then}
-use Rattle.rules.specs.Geometry.{Geometry}
-use Rattle.rules.specs.Store.{Store}
+use Rattle.rules.specs.Store.{Geometry, Store}
+use Rattle.rules.specs.Operation.{bad}
+use Rattle.rules.specs.Run.{overlap, uneven, sameBytes, zeroStateid, readStateid, failed, does}
 use Rattle.store.specs.Plan.{Counted}
-use Rattle.rules.specs.Clone.{overlap, uneven}
 use Rattle.rules.proofs.BoolLaws.{and-both}
 use Rattle.compound.specs.declared.run.Progress.{Progress}
-use Rattle.rules.specs.Operation.{bad}
-use Rattle.rules.specs.Run.{sameBytes, zeroStateid, readStateid, failed}
 use Rattle.compound.specs.Runner.{fileIn, stateOf, Turned}
 use Rattle.compound.proofs.RunLaws.{bare-written}
 

@@ -12,24 +12,22 @@ use Rattle.xdr.specs.Bytes.{splice, Written}
 use Rattle.xdr.specs.Encode.{u32, concatMap}
 use Rattle.xdr.proofs.BytesLaws.{length-splice, written-then}
 use Rattle.xdr.proofs.EncodeLaws.{length-u32}
-use Rattle.rules.specs.Geometry.{Geometry, goodGeometry}
-use Rattle.rules.specs.Store.{Store, goodLengths}
-use Rattle.rules.specs.Sound.{sound}
+use Rattle.rules.specs.Store.{Geometry, goodGeometry, Store, goodLengths, sound}
+use Rattle.rules.specs.Operation.{Op, Item, op, bad, itemAt, items}
+use Rattle.rules.specs.Run.{State, Event, failed, perform, reached, config}
+use Rattle.rules.specs.Calls.{resultBytes, placeAfter, lastPlace, lastOf, lastStatus, lastStore, fresh}
 use Rattle.store.specs.Tables.{Shaped}
 use Rattle.store.specs.Plan.{Counted}
 use Rattle.rules.proofs.FileLaws.{Sound}
-use Rattle.rules.proofs.GeometryLaws.{good, block-pos}
+use Rattle.rules.proofs.GeometryLaws.{Good, good, block-pos}
 use Rattle.rules.proofs.SoundLaws.{sound-facts, lengths-test, sound-test}
+use Rattle.rules.proofs.OperationLaws.{Ready, performed}
+use Rattle.rules.proofs.ItemLaws as Items
+use Rattle.rules.proofs.ChainLaws.{Step, decoded, undecoded, step-after, step-known}
 use Rattle.compound.specs.declared.answer.Handle.{Handle}
 use Rattle.compound.specs.declared.run.Progress.{Progress}
-use Rattle.rules.specs.Operation.{Op, Item, op, bad, itemAt, items}
-use Rattle.rules.specs.Run.{State, Event, failed, perform, reached}
-use Rattle.rules.specs.Serve.{resultBytes, placeAfter, lastPlace, lastOf, lastStatus, lastStore, fresh}
 use Rattle.compound.specs.Runner.{fileIn, stateOf, Known, Runs, Done, eventAt, Turned, RunsAll, RanAll}
-use Rattle.rules.proofs.StepLaws.{Ready, effect-ready, Performed, refused, nospc, done, performed}
 use Rattle.compound.proofs.RunLaws.{perform-item}
-use Rattle.rules.proofs.ReplyLaws.{result-most}
-use Rattle.rules.proofs.ReplyReads.{BadFits, item-fits}
 
 -- ---- what stays known
 
@@ -54,40 +52,35 @@ ready-known {g} {x} e r = record {
 record Stands (g : Geometry) (v s : List ℕ) (x : State) (at : ℕ) (z : Event) : Type 0 where
   known : Known g (z .after)
   short : length (resultBytes z) ≤ 2179
-  on : z .status ≡ 0 → (n : ℕ) → reached g v x (items s (suc n) at) ≡ z ∷ reached g v (z .after) (items s n (placeAfter at (z .item)))
-  off : z .status ≢ 0 → (n : ℕ) → reached g v x (items s (suc n) at) ≡ z ∷ []
+  on : z .status ≡ 0 → (n : ℕ) → reached (config g v) x (items s (suc n) at) ≡ z ∷ reached (config g v) (z .after) (items s n (placeAfter at (z .item)))
+  off : z .status ≢ 0 → (n : ℕ) → reached (config g v) x (items s (suc n) at) ≡ z ∷ []
 
 module _ (g : Geometry) (v s : List ℕ) (hv : length v ≡ 8) (x : State) (k : Known g x) (at : ℕ) where
   r : Ready g x
   r = known-ready k
 
-  pos : 0 < g .B
-  pos = block-pos (good g (k .shaped .geometry))
-
-  after-known : (o : Op) (next : ℕ) {z : Event} → Performed g v x o next z → Known g (z .after)
-  after-known o next (refused e h) = k
-  after-known o next (nospc h l) = k
-  after-known o next (done h l) = ready-known (k .shaped .geometry) (effect-ready g pos x r o h l)
+  bounds : Good g
+  bounds = good g (k .shaped .geometry)
 
   reached-at : (i : Item) → itemAt s at ≡ i → (n : ℕ)
-      → reached g v x (items s (suc n) at) ≡ reached g v x (elim i [ op o next ↦ op o next ∷ items s n next | bad k e ↦ bad k e ∷ [] ])
+      → reached (config g v) x (items s (suc n) at) ≡ reached (config g v) x (elim i [ op o next ↦ op o next ∷ items s n next | bad k e ↦ bad k e ∷ [] ])
   unfolding items
   reached-at i e n = rw (e, items)
 
   -- the events from z on, by its status
   abbrev from : Event → List Item → ℕ → List Event
-  from z is zero = z ∷ reached g v (z .after) is
+  from z is zero = z ∷ reached (config g v) (z .after) is
   from z is (suc n) = z ∷ []
 
-  reached-from : (o : Op) (next : ℕ) (is : List Item) → reached g v x (op o next ∷ is) ≡ from (perform g v x o next) is (perform g v x o next .status)
+  reached-from : (o : Op) (next : ℕ) (is : List Item) → reached (config g v) x (op o next ∷ is) ≡ from (perform (config g v) x o next) is (perform (config g v) x o next .status)
   unfolding reached
-  reached-from o next is = go (perform g v x o next) (perform g v x o next .status)
+  reached-from o next is = go (perform (config g v) x o next) (perform (config g v) x o next .status)
     where
-      go : (z : Event) (n : ℕ) → _≡_ {A = List Event} (elim n [ zero ↦ z ∷ reached g v (z .after) is | suc e ↦ z ∷ [] ]) (from z is n)
+      go : (z : Event) (n : ℕ) → _≡_ {A = List Event} (elim n [ zero ↦ z ∷ reached (config g v) (z .after) is | suc e ↦ z ∷ [] ]) (from z is n)
       go z zero = refl
       go z (suc n) = refl
 
-  bad-stops : (j e : ℕ) (is : List Item) → reached g v x (bad j e ∷ is) ≡ failed (bad j e) x e ∷ []
+  bad-stops : (j e : ℕ) (is : List Item) → reached (config g v) x (bad j e ∷ is) ≡ failed (bad j e) x e ∷ []
   unfolding reached
   bad-stops j e is = refl
 
@@ -95,24 +88,27 @@ module _ (g : Geometry) (v s : List ℕ) (hv : length v ≡ 8) (x : State) (k : 
   unfolding eventAt
   stands-at = go (itemAt s at) refl
     where
+      done : (o : Op) (next : ℕ) → Step g (perform (config g v) x o next)
+      done o next = decoded v x o next hv r (performed (config g v) x o next)
+
       off-by : (z : Event) (is : List Item) (n : ℕ) → n ≢ 0 → from z is n ≡ z ∷ []
       off-by z is zero h = absurd (h refl)
       off-by z is (suc n) h = refl
 
-      go : (i : Item) → itemAt s at ≡ i → Stands g v s x at (elim i [ op o next ↦ perform g v x o next | bad k e ↦ failed (bad k e) x e ])
+      go : (i : Item) → itemAt s at ≡ i → Stands g v s x at (elim i [ op o next ↦ perform (config g v) x o next | bad k e ↦ failed (bad k e) x e ])
       go (op o next) e = record {
-        known = after-known o next (performed g v x o next);
-        short = result-most g (good g (k .shaped .geometry) .block) v hv x r o next;
+        known = ready-known (k .shaped .geometry) (step-after g bounds (done o next));
+        short = step-known g bounds (done o next) .size;
         on = λ h n. reached-at (op o next) e n ∙ reached-from o next (items s n next)
-            ∙ ap (from (perform g v x o next) (items s n next)) h
-            ∙ ap (λ i. perform g v x o next ∷ reached g v (perform g v x o next .after) (items s n (placeAfter at i))) (sym (perform-item g v x o next));
+            ∙ ap (from (perform (config g v) x o next) (items s n next)) h
+            ∙ ap (λ i. perform (config g v) x o next ∷ reached (config g v) (perform (config g v) x o next .after) (items s n (placeAfter at i))) (sym (perform-item g v x o next));
         off = λ h n. reached-at (op o next) e n ∙ reached-from o next (items s n next)
-            ∙ off-by (perform g v x o next) (items s n next) (perform g v x o next .status) h;
+            ∙ off-by (perform (config g v) x o next) (items s n next) (perform (config g v) x o next .status) h;
       }
       go (bad j e) q = record {
         known = k;
-        short = simp (length-append, length-u32) (omega arith);
-        on = λ h n. absurd (omega (arith, h, subst BadFits q (item-fits s at) .1));
+        short = step-known g bounds (undecoded x j e r (subst Items.Known q (Items.item-known s at))) .size;
+        on = λ h n. absurd (omega (arith, h, subst Items.Known q (Items.item-known s at) .status-some));
         off = λ h n. reached-at (bad j e) q n ∙ bad-stops j e [];
       }
 
@@ -176,7 +172,7 @@ more-sofar {st} {after} {after′} {at} {out} {before} zs z {r} {r′} d long t 
 pub record Held (g : Geometry) (v s : List ℕ) (st : Store) (ops at out : ℕ) (before : List ℕ) (x : State) (counts reply : List ℕ) (r : Progress) : Type 0 where
   pub zs : List Event
   pub sofar : Sofar st at out before zs r (x .store) reply
-  pub left : reached g v (fresh st) (items s ops at) ≡ zs ++ reached g v x (items s (ops - r .count) (r .read))
+  pub left : reached (config g v) (fresh st) (items s ops at) ≡ zs ++ reached (config g v) x (items s (ops - r .count) (r .read))
   pub within : r .count ≤ ops
   pub known : Known g x
   pub counted : Counted (x .store .words) counts
@@ -203,7 +199,7 @@ module _ {g : Geometry} {v s : List ℕ} {st : Store} {ops at out : ℕ} {before
   held-start = let all : ops ≡ ops - 0 = omega arith in record {
     zs = [];
     sofar = start-sofar st at out before (omega (arith, a .room));
-    left = ap (λ (m : ℕ). reached g v (fresh st) (items s m at)) all;
+    left = ap (λ (m : ℕ). reached (config g v) (fresh st) (items s m at)) all;
     within = omega arith;
     known = record { shaped = a .shaped; sound = a .sound; current = no-handle g; saved = no-handle g };
     counted = a .counted;
@@ -228,7 +224,7 @@ module _ {g : Geometry} {v s : List ℕ} {st : Store} {ops at out : ℕ} {before
       omega (arith, a .few, l),
     )
 
-    pub held-end : ops ≤ r .count → RanAll (reached g v (fresh st) (items s ops at)) st at out r st₁ before reply
+    pub held-end : ops ≤ r .count → RanAll (reached (config g v) (fresh st) (items s ops at)) st at out r st₁ before reply
     unfolding items reached
     held-end l =
         let none-left : ops - r .count ≡ 0 = omega arith in
@@ -248,11 +244,11 @@ module _ {g : Geometry} {v s : List ℕ} {st : Store} {ops at out : ℕ} {before
       sofar-more : Sofar st at out before (h .zs ++ (z ∷ [])) r′ after reply′
       sofar-more = more-sofar (h .zs) z (h .sofar) (omega (arith, a .room)) t (stands .short)
 
-      pub held-stop : r′ .status ≢ 0 → RanAll (reached g v (fresh st) (items s ops at)) st at out r′ after before reply′
+      pub held-stop : r′ .status ≢ 0 → RanAll (reached (config g v) (fresh st) (items s ops at)) st at out r′ after before reply′
       held-stop n =
           let fails : z .status ≢ 0 = λ e. n (t .done .status-is ∙ e) in
-          let all : reached g v (fresh st) (items s ops at) ≡ h .zs ++ (z ∷ []) =
-          h .left ∙ ap (λ m. h .zs ++ reached g v (stateOf (r .current) (r .saved) st₁) (items s m (r .read))) step-left
+          let all : reached (config g v) (fresh st) (items s ops at) ≡ h .zs ++ (z ∷ []) =
+          h .left ∙ ap (λ m. h .zs ++ reached (config g v) (stateOf (r .current) (r .saved) st₁) (items s m (r .read))) step-left
           ∙ ap (λ y. h .zs ++ y) (stands .off fails (ops - r′ .count)) in
           rw all (sofar-more .ran)
 
@@ -265,11 +261,11 @@ module _ {g : Geometry} {v s : List ℕ} {st : Store} {ops at out : ℕ} {before
             zs = h .zs ++ (z ∷ []);
             sofar = sofar-more;
             left =
-                h .left ∙ ap (λ m. h .zs ++ reached g v (stateOf (r .current) (r .saved) st₁) (items s m (r .read))) step-left
+                h .left ∙ ap (λ m. h .zs ++ reached (config g v) (stateOf (r .current) (r .saved) st₁) (items s m (r .read))) step-left
                 ∙ ap (λ y. h .zs ++ y) (stands .on goes (ops - r′ .count))
-                ∙ ap (λ y. h .zs ++ (z ∷ reached g v y (items s (ops - r′ .count) (placeAfter (r .read) (z .item))))) (state-is t)
-                ∙ ap (λ p. h .zs ++ (z ∷ reached g v (stateOf (r′ .current) (r′ .saved) after) (items s (ops - r′ .count) p))) (sym (t .read-is))
-                ∙ sym (append-assoc (h .zs) (z ∷ []) (reached g v (stateOf (r′ .current) (r′ .saved) after) (items s (ops - r′ .count) (r′ .read))));
+                ∙ ap (λ y. h .zs ++ (z ∷ reached (config g v) y (items s (ops - r′ .count) (placeAfter (r .read) (z .item))))) (state-is t)
+                ∙ ap (λ p. h .zs ++ (z ∷ reached (config g v) (stateOf (r′ .current) (r′ .saved) after) (items s (ops - r′ .count) p))) (sym (t .read-is))
+                ∙ sym (append-assoc (h .zs) (z ∷ []) (reached (config g v) (stateOf (r′ .current) (r′ .saved) after) (items s (ops - r′ .count) (r′ .read))));
             within = omega (arith, l, t .count-is);
             known = subst (Known g) (state-is t) (stands .known);
             counted = t .done .counted;

@@ -13,27 +13,22 @@ use Rattle.xdr.specs.Bytes.{splice, Written}
 use Rattle.xdr.specs.Encode.{u32, u64, bool, opaque, opaqueSize, concatMap}
 use Rattle.xdr.proofs.BytesLaws.{length-splice, written-then}
 use Rattle.xdr.proofs.EncodeLaws.{length-u32, length-bool}
-use Rattle.rules.specs.Geometry.{Geometry}
-use Rattle.rules.specs.Store.{Store, sizeOf}
-use Rattle.rules.specs.Calls.{first}
-use Rattle.rules.specs.Content.{bytesFrom}
+use Rattle.rules.specs.Lists.{first}
+use Rattle.rules.specs.Store.{Geometry, Store, sizeOf, bytesFrom, sound}
+use Rattle.rules.specs.Read.{granted, readPieces, seekPlace}
+use Rattle.rules.specs.Operation.{pieceBytes, NXIO, NOFILEHANDLE, BAD-STATEID, UNION-NOTSUPP, Op, READ, READ-PLUS, SEEK, opNumber, readReply, readPlusReply, seekReply}
+use Rattle.rules.specs.Run.{State, noFile, fileOf, readStateid, errors, effect, body, perform, config, does, countedAfter}
 use Rattle.store.specs.Plan.{Counted}
-use Rattle.rules.specs.Read.{granted, pieceBytes, piecesSize, readPieces}
-use Rattle.store.specs.ReadCode.{Placed, Readable, PiecesFit, PiecesPut, piecesTo}
-use Rattle.rules.specs.Seek.{seekPlace}
-use Rattle.rules.specs.Sound.{sound}
+use Rattle.store.specs.ReadCode.{Placed, Readable, PiecesFit, PiecesPut, piecesTo, piecesSize}
 use Rattle.store.specs.Tables.{Shaped}
 use Rattle.rules.proofs.FileLaws.{Sound}
 use Rattle.rules.proofs.GeometryLaws.{Good, good, lengths}
-use Rattle.store.proofs.ScanLaws.{length-pieces}
 use Rattle.rules.proofs.SoundLaws.{sound-facts}
+use Rattle.rules.proofs.BodyLaws.{read-plus-most}
+use Rattle.store.proofs.ScanLaws.{length-pieces}
 use Rattle.compound.specs.declared.answer.Handle.{Handle}
 use Rattle.compound.specs.declared.answer.Answer.{Answer}
-use Rattle.rules.specs.Status.{NXIO, NOFILEHANDLE, BAD-STATEID, UNION-NOTSUPP}
-use Rattle.rules.specs.Operation.{Op, READ, READ-PLUS, SEEK, opNumber}
-use Rattle.rules.specs.Run.{State, noFile, fileOf, readStateid, errors, effect, body, readReply, readPlusReply, seekReply, perform}
 use Rattle.compound.specs.Runner.{fileIn, Known, Shows, Done, Bare, Answered}
-use Rattle.rules.proofs.ReplyLaws.{read-plus-most}
 use Rattle.compound.proofs.RunLaws.{perform-done, edit-failed, failed-answer, body-answer}
 use Rattle.compound.proofs.SpliceLaws.{written-before}
 
@@ -144,15 +139,15 @@ pub record Shown (o : Op) (i : List ℕ) (b : Geometry → Store → ℕ → Lis
 
 module _ (i : List ℕ) (off n : ℕ) where
   pub read-shown : Shown (READ i off n) i (λ g st f. readReply g st f off n) (λ g x. [])
-  unfolding errors effect body
+  unfolding errors effect body does
   read-shown = record { stays = λ g x. refl; errors-are = λ g x. refl; body-is = λ g v x. refl }
 
   pub plus-shown : Shown (READ-PLUS i off n) i (λ g st f. readPlusReply g st f off n) (λ g x. [])
-  unfolding errors effect body
+  unfolding errors effect body does
   plus-shown = record { stays = λ g x. refl; errors-are = λ g x. refl; body-is = λ g v x. refl }
 
   pub seek-shown : Shown (SEEK i off n) i (λ g st f. seekReply g st f off n) (λ g x. (ltb 1 n, UNION-NOTSUPP) ∷ (leb (sizeOf (x .store) (fileOf (x .current))) off, NXIO) ∷ [])
-  unfolding errors effect body
+  unfolding errors effect body does
   seek-shown = record { stays = λ g x. refl; errors-are = λ g x. refl; body-is = λ g v x. refl }
 
 -- SEEK's first error, by the tests in their order
@@ -191,33 +186,33 @@ module _ {o : Op} {i : List ℕ} {b : Geometry → Store → ℕ → List ℕ} {
   saved-stays = ap (λ (y : State). y .saved) (s .stays g x)
 
   -- no error: the store is as before, and a sound store's pool is large enough for it
-  unchanged : {counts : List ℕ} → Known g x → first (errors g x o) ≡ 0 → Counted (x .store .words) counts → Done (perform g v x o next) 0 (x .store) counts
-  unchanged k e c = rw (perform-done g v x o next e (rw (s .stays g x) (facts (k .shaped) (k .sound) .room)), s .stays g x)
+  unchanged : {counts : List ℕ} → Known g x → first (errors g x o) ≡ 0 → Counted (x .store .words) counts → Done (perform (config g v) x o next) 0 (x .store) counts
+  unchanged k e c = rw (perform-done g v x o next e (rw (s .stays g x, countedAfter) (facts (k .shaped) (k .sound) .room)), s .stays g x)
       (record { status-is = refl; sizes-are = refl; words-are = refl; mem-is = refl; counted = c })
 
   module _ {current saved : Handle} (current-is : fileIn current ≡ x .current) (saved-is : fileIn saved ≡ x .saved)
       {counts : List ℕ} (counted : Counted (x .store .words) counts) {at : ℕ} {before reply : List ℕ} where
     pub shown-failed : {e : ℕ} {r : Answer} → first (errors g x o) ≡ e → e ≢ 0 → Bare (opNumber o) e current saved r at before reply
-        → Answered (perform g v x o next) r (x .store) counts at before reply
+        → Answered (perform (config g v) x o next) r (x .store) counts at before reply
     shown-failed {e} h n d =
         failed-answer g v x o next current saved current-is saved-is current-stays saved-stays (edit-failed g v x o next (x .store) refl e h n counted) n d
 
     pub shown-no-file : {r : Answer} → x .current ≡ none → Bare (opNumber o) NOFILEHANDLE current saved r at before reply
-        → Answered (perform g v x o next) r (x .store) counts at before reply
+        → Answered (perform (config g v) x o next) r (x .store) counts at before reply
     shown-no-file h d = shown-failed (rw (s .errors-are g x, h)) (λ q. omega (arith, q)) d
 
     pub shown-bad-stateid : {f : ℕ} {r : Answer} → x .current ≡ some f → readStateid i ≡ false → Bare (opNumber o) BAD-STATEID current saved r at before reply
-        → Answered (perform g v x o next) r (x .store) counts at before reply
+        → Answered (perform (config g v) x o next) r (x .store) counts at before reply
     shown-bad-stateid h t d = shown-failed (rw (s .errors-are g x, h, t)) (λ q. omega (arith, q)) d
 
     module _ (k : Known g x) {f : ℕ} (h : x .current ≡ some f) (l : at + 2179 ≤ length before) {p q : ℕ} {mid : List ℕ}
         (w : Written (u32 (opNumber o) ++ u32 0) 8 at before mid p) (u : Written (b g (x .store) f) (length (b g (x .store) f)) p mid reply q) where
       pub shown-done : first (errors g x o) ≡ 0
-          → Answered (perform g v x o next) (record { status = 0; next = q; current = current; saved = saved }) (x .store) counts at before reply
+          → Answered (perform (config g v) x o next) (record { status = 0; next = q; current = current; saved = saved }) (x .store) counts at before reply
       shown-done e =
           body-answer g v x o next current saved current-is saved-is current-stays saved-stays (unchanged k e counted) (s .body-is g v x ∙ rw h) (omega (arith, l)) w u
 
       -- the stateid passes, and there are no other errors
       pub shown-passed : first (ts g x) ≡ 0 → readStateid i ≡ true
-          → Answered (perform g v x o next) (record { status = 0; next = q; current = current; saved = saved }) (x .store) counts at before reply
+          → Answered (perform (config g v) x o next) (record { status = 0; next = q; current = current; saved = saved }) (x .store) counts at before reply
       shown-passed e t = shown-done (rw (s .errors-are g x, t) (ap (λ (y : Option ℕ). cond (noFile y) NOFILEHANDLE (first (ts g x))) h ∙ e))

@@ -11,28 +11,25 @@ use lib.ListN.{length, take, drop, length-append, length-replicate}
 use lib.Dec.{ltb, eqb}
 use Rattle.xdr.specs.declared.bytes.Span.{Span}
 use Rattle.xdr.specs.Bytes.{partOf, splice, Written}
-use Rattle.xdr.specs.Encode.{u32, opaque, opaqueSize, padBytes, concatMap}
+use Rattle.xdr.specs.Encode.{opaqueSize, padBytes, concatMap}
 use Rattle.xdr.specs.Decode.{got, fault}
-use Rattle.rules.specs.Geometry.{Geometry, goodGeometry}
-use Rattle.rules.specs.Store.{Store, goodLengths}
-use Rattle.rules.specs.Sound.{sound}
+use Rattle.rules.specs.Lists.{first}
+use Rattle.rules.specs.Store.{Geometry, goodGeometry, Store, goodLengths, sound}
+use Rattle.rules.specs.Operation.{MINOR-VERS-MISMATCH, TOO-MANY-OPS, items, Header, header}
+use Rattle.rules.specs.Run.{Event, reached, config}
+use Rattle.rules.specs.Calls.{storeRefusal, resultBytes, replyHead, replyBytes, lastStatus, fresh, headerStatus, compound, Outcome, Gives, refuse, served, refusals, refusal, Call, answer, Contract}
 use Rattle.store.specs.Tables.{Shaped, Tallied}
-use Rattle.rules.specs.Calls.{first, storeRefusal}
 use Rattle.store.specs.Survey.{TableReady, Surveyed}
 use Rattle.rules.proofs.GeometryLaws.{good, block-pos}
 use Rattle.rules.proofs.SoundLaws.{sound-facts}
-use Rattle.store.proofs.EditLaws.{sound-counted}
 use Rattle.rules.proofs.FirstLaws.{all-clear}
+use Rattle.rules.proofs.ItemLaws.{header-reads}
+use Rattle.rules.proofs.ReplyLaws.{compound-results}
+use Rattle.store.proofs.EditLaws.{sound-counted}
 use Rattle.compound.specs.declared.serving.Served.{Served}
 use Rattle.compound.specs.declared.run.Progress.{Progress}
-use Rattle.rules.specs.Status.{MINOR-VERS-MISMATCH, TOO-MANY-OPS}
-use Rattle.rules.specs.Operation.{items, Header, header}
-use Rattle.rules.specs.Run.{Event, reached}
-use Rattle.rules.specs.Serve.{resultBytes, replyBytes, lastStatus, fresh, headerStatus, compound, Outcome, Gives, refuse, served, refusals, refusal, serve}
-use Rattle.rules.specs.Claim.{Call, answer, Contract}
 use Rattle.compound.specs.Runner.{Serves, RunsAll, RanAll, headerOf}
 use Rattle.compound.proofs.SpliceLaws.{written-before}
-use Rattle.rules.proofs.ReplyLaws.{header-reads, results-most}
 
 -- ---- the reply
 
@@ -42,21 +39,21 @@ unfolding splice
 whole-reply {bs} {buf = buf} w = (w .bytes ∙ ap (λ (k : ℕ). bs ++ drop k buf) (zero-add (length bs)), omega (arith, w .place, w .size))
 
 module _ (g : Geometry) (v s : List ℕ) (st : Store) (buf : List ℕ) (h : Header) (at : ℕ) where
-  events-none : (e : ℕ) → headerStatus h ≡ e → e ≢ 0 → compound g v st s h at ≡ []
+  events-none : (e : ℕ) → headerStatus h ≡ e → e ≢ 0 → compound (config g v) st s h at ≡ []
   unfolding compound
   events-none zero q n = absurd (n refl)
   events-none (suc e) q n = rw (q, compound)
 
-  events-some : headerStatus h ≡ 0 → compound g v st s h at ≡ reached g v (fresh st) (items s (h .ops) at)
+  events-some : headerStatus h ≡ 0 → compound (config g v) st s h at ≡ reached (config g v) (fresh st) (items s (h .ops) at)
   unfolding compound
   events-some q = rw (q, compound)
 
   -- a compound that is refused as a whole
-  pub served-none : (e : ℕ) → headerStatus h ≡ e → e ≢ 0 → {n w : ℕ} {reply : List ℕ} → Written (u32 e ++ opaque (h .tag) ++ u32 0) n 0 buf reply w
-      → Gives (served buf st h at (compound g v st s h at)) (record { number = 0; read = at; written = w; reply = reply; store = st })
+  pub served-none : (e : ℕ) → headerStatus h ≡ e → e ≢ 0 → {n w : ℕ} {reply : List ℕ} → Written (replyHead .write (e, (h .tag, 0))) n 0 buf reply w
+      → Gives (served buf st h at (compound (config g v) st s h at)) (record { number = 0; read = at; written = w; reply = reply; store = st })
   unfolding served replyBytes
   served-none e q n {reply = reply} w =
-      let is : replyBytes (headerStatus h) (h .tag) [] ≡ u32 e ++ opaque (h .tag) ++ u32 0 = rw (q, replyBytes) (append-nil (u32 e ++ opaque (h .tag) ++ u32 0)) in
+      let is : replyBytes (headerStatus h) (h .tag) [] ≡ replyHead .write (e, (h .tag, 0)) = rw (q, replyBytes) (append-nil (replyHead .write (e, (h .tag, 0)))) in
       let all = whole-reply w in
       rw (events-none e q n) (record {
         number = refl;
@@ -70,16 +67,16 @@ module _ (g : Geometry) (v s : List ℕ) (st : Store) (buf : List ℕ) (h : Head
 
   -- the head in front of the results of a run
   pub served-some : headerStatus h ≡ 0 → {out n w : ℕ} {r : Progress} {after : Store} {mid reply : List ℕ} → out ≡ n
-      → RanAll (reached g v (fresh st) (items s (h .ops) at)) st at out r after buf mid → out + 26148 ≤ length buf
-      → length (concatMap resultBytes (compound g v st s h at)) ≤ 26148
-      → Written (u32 (r .status) ++ opaque (h .tag) ++ u32 (r .count)) n 0 mid reply w
-      → Gives (served buf st h at (compound g v st s h at)) (record { number = 0; read = r .read; written = r .out; reply = reply; store = after })
+      → RanAll (reached (config g v) (fresh st) (items s (h .ops) at)) st at out r after buf mid → out + 26148 ≤ length buf
+      → length (concatMap resultBytes (compound (config g v) st s h at)) ≤ 26148
+      → Written (replyHead .write (r .status, (h .tag, r .count))) n 0 mid reply w
+      → Gives (served buf st h at (compound (config g v) st s h at)) (record { number = 0; read = r .read; written = r .out; reply = reply; store = after })
   unfolding served replyBytes
   served-some q {out} {n} {w} {r} e run room most head =
-      let zs = reached g v (fresh st) (items s (h .ops) at) in
+      let zs = reached (config g v) (fresh st) (items s (h .ops) at) in
       let from : 0 + n ≡ out = zero-add n ∙ sym e in
       let both = written-before from (omega (arith, room, rw (events-some q) at most)) (run .written) head in
-      let is : replyBytes (lastStatus (headerStatus h) zs) (h .tag) zs ≡ u32 (r .status) ++ opaque (h .tag) ++ u32 (r .count) ++ concatMap resultBytes zs =
+      let is : replyBytes (lastStatus (headerStatus h) zs) (h .tag) zs ≡ replyHead .write (r .status, (h .tag, r .count)) ++ concatMap resultBytes zs =
       rw (q, run .status-is, run .count-is, replyBytes) in
       let all = whole-reply both in
       rw (events-some q) (record {
@@ -94,25 +91,25 @@ module _ (g : Geometry) (v s : List ℕ) (st : Store) (buf : List ℕ) (h : Head
 
 -- ---- the refusals
 
-refused-at : (c : Call) (st : Store) (k : ℕ) → refusal (c .geometry) (c .verifier) (c .request) (c .buffer) st ≡ k → k ≢ 0 → answer c st ≡ refuse k (c .buffer) st
-unfolding answer serve
+refused-at : (c : Call) (st : Store) (k : ℕ) → refusal c st ≡ k → k ≢ 0 → answer c st ≡ refuse k (c .buffer) st
+unfolding answer
 refused-at c st zero e n = absurd (n refl)
-refused-at c st (suc k) e n = rw (e, serve)
+refused-at c st (suc k) e n = rw (e, answer)
 
-refuse-gives : {want : Outcome} {k number read written : ℕ} {buf : List ℕ} {st : Store} → want ≡ refuse k buf st → (number ≡ k) × ((read ≡ 0) × (written ≡ 0))
+refuse-gives : {want : Outcome Store} {k number read written : ℕ} {buf : List ℕ} {st : Store} → want ≡ refuse k buf st → (number ≡ k) × ((read ≡ 0) × (written ≡ 0))
     → Gives want (record { number = number; read = read; written = written; reply = buf; store = st })
 refuse-gives e r = rw e (record { number = r .0; read = r .1 .0; written = r .1 .1; reply = refl; sizes = refl; words = refl; mem = refl })
 
 module _ (g : Geometry) (v s buf : List ℕ) (st : Store) where
   abbrev call : Call
-  call = record { geometry = g; verifier = v; request = s; buffer = buf }
+  call = record { config = config g v; request = s; buffer = buf }
 
   -- a call refused with number k, as the code answers it
   abbrev Refuses : ℕ → Type 0
   Refuses k = (number read written : ℕ) → (number ≡ k) × ((read ≡ 0) × (written ≡ 0))
       → Contract call st (record { number = number; read = read; written = written; reply = buf; store = st })
 
-  by : (k : ℕ) → refusal g v s buf st ≡ k → k ≢ 0 → Refuses k
+  by : (k : ℕ) → refusal call st ≡ k → k ≢ 0 → Refuses k
   by k e n number read written r = refuse-gives (refused-at call st k e n) r
 
   pub refused-1 : goodGeometry g ≡ false → Refuses 1
@@ -146,17 +143,17 @@ module _ (g : Geometry) (v s buf : List ℕ) (st : Store) where
                 by 5 (rw (geometry, lengths, eq-eqb (length v) 8 verifier, is-sound, le-ltb 65536 (length s) short, lt-ltb (length buf) 32768 l)) (λ q. omega (arith, q))
 
             module _ (room : 32768 ≤ length buf) where
-              accepted : refusal g v s buf st ≡ 0
+              accepted : refusal call st ≡ 0
               unfolding refusal
               accepted = rw (geometry, lengths, eq-eqb (length v) 8 verifier, is-sound, le-ltb 65536 (length s) short, le-ltb (length buf) 32768 room)
 
               pub refused-6 : {p : ℕ} → header s 0 ≡ fault p → Refuses 6
-              unfolding answer serve
-              refused-6 e number read written r = refuse-gives (rw (accepted, e, serve)) r
+              unfolding answer
+              refused-6 e number read written r = refuse-gives (rw (accepted, e, answer)) r
 
-              pub serves : {h : Header} {at : ℕ} {o : Outcome} → header s 0 ≡ got h at → Gives (served buf st h at (compound g v st s h at)) o → Contract call st o
-              unfolding answer serve
-              serves e d = rw (accepted, e, serve) d
+              pub serves : {h : Header} {at : ℕ} {o : Outcome Store} → header s 0 ≡ got h at → Gives (served buf st h at (compound (config g v) st s h at)) o → Contract call st o
+              unfolding answer
+              serves e d = rw (accepted, e, answer) d
 
 -- ---- the survey
 
@@ -218,10 +215,10 @@ runs-all k tag ops ht ho = record {
 
 -- all results of a served compound
 pub results-fit : {g : Geometry} {v s : List ℕ} {st : Store} {counts reply : List ℕ} → Serves g v s st counts reply → (h : Header) (at : ℕ)
-    → length (concatMap resultBytes (compound g v st s h at)) ≤ 26148
+    → length (concatMap resultBytes (compound (config g v) st s h at)) ≤ 26148
 results-fit {g} {v} {s} {st} k h at =
     let d = good g (k .shaped .geometry) in
-    results-most g (d .block) v (k .verifier) st (sound-facts g (block-pos d) st (k .shaped .lengths) (k .sound)) s h at
+    compound-results g d v (k .verifier) st (sound-facts g (block-pos d) st (k .shaped .lengths) (k .sound)) s h at
 
 -- the results start behind the head
 pub head-place : (tag n p : ℕ) → n ≡ tag → p ≡ padBytes n → 12 + (n + p) ≡ 8 + opaqueSize tag

@@ -8,17 +8,15 @@ use lib.ListN.{length}
 use Rattle.xdr.specs.declared.bytes.Span.{Span}
 use Rattle.xdr.specs.Bytes.{partOf, Written}
 use Rattle.xdr.specs.Encode.{u32, concatMap}
-use Rattle.rules.specs.Geometry.{Geometry}
-use Rattle.rules.specs.Store.{Store}
-use Rattle.rules.specs.Sound.{sound}
+use Rattle.rules.specs.Store.{Geometry, Store, sound}
+use Rattle.rules.specs.Operation.{op, bad, itemAt, Header}
+use Rattle.rules.specs.Run.{State, Event, failed, perform, config}
+use Rattle.rules.specs.Calls.{resultBytes, placeAfter, lastPlace, lastStatus, lastStore}
 use Rattle.store.specs.Tables.{Shaped}
 use Rattle.store.specs.Plan.{Counted}
 use Rattle.compound.specs.declared.answer.Handle.{Handle}
 use Rattle.compound.specs.declared.answer.Answer.{Answer}
 use Rattle.compound.specs.declared.run.Progress.{Progress}
-use Rattle.rules.specs.Operation.{op, bad, itemAt, Header}
-use Rattle.rules.specs.Run.{State, Event, failed, perform}
-use Rattle.rules.specs.Serve.{resultBytes, placeAfter, lastPlace, lastStatus, lastStore}
 
 -- ---- the state
 
@@ -83,7 +81,7 @@ pub record Answered (z : Event) (r : Answer) (after : Store) (counts : List ℕ)
 
 -- what stands at place `at` of request s, reached in state x
 unfoldable pub eventAt : Geometry → List ℕ → State → List ℕ → ℕ → Event
-eventAt g v x s at = elim (itemAt s at) [ op o next ↦ perform g v x o next | bad k e ↦ failed (bad k e) x e ]
+eventAt g v x s at = elim (itemAt s at) [ op o next ↦ perform (config g v) x o next | bad k e ↦ failed (bad k e) x e ]
 
 -- the run before and after it
 pub record Turned (z : Event) (r r′ : Progress) (after : Store) (counts before reply : List ℕ) : Type 0 where

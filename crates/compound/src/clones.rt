@@ -7,15 +7,13 @@ ghost use Prim.Native.Nat.{ℕ, _-_, _<_};
 ghost use lib.ListN.{length, getD};
 ghost use lib.Dec.{eqb};
 ghost use Rattle.xdr.specs.Bytes.{partOf};
-ghost use Rattle.rules.specs.Geometry.{goodGeometry};
+ghost use Rattle.rules.specs.Lists.{first};
+ghost use Rattle.rules.specs.Store.{goodGeometry, Store};
+ghost use Rattle.rules.specs.Run.{State, zeroStateid, readStateid, errors, perform, overlap, uneven, config};
 ghost use Rattle.store.specs.Lent.{geometryOf};
-ghost use Rattle.rules.specs.Store.{Store};
-ghost use Rattle.rules.specs.Calls.{first};
 ghost use Rattle.store.specs.Edits.{EditKnown};
 ghost use Rattle.compound.specs.Decoded.{meaning};
-ghost use Rattle.rules.specs.Run.{State, zeroStateid, readStateid, errors, perform};
 ghost use Rattle.compound.specs.Runner.{stateOf, Runs, Done, Answered};
-ghost use Rattle.rules.specs.Clone.{overlap, uneven};
 use crate::answer::Answer;
 use crate::answer::Handle;
 use crate::answer::put_result;
@@ -163,7 +161,7 @@ fn copy_status(
 ) -> u32
     requires { ⌜ EditKnown (geometryOf g) (record { sizes = now sizes; words = now words; mem = now mem }) (now counts) f × (e < geometryOf g .F) ⌝ }
     ensures { λ r. ⌜ ((v : List ℕ) (x : State) (next : ℕ) → x .saved ≡ some e → x .current ≡ some f → x .store ≡ record { sizes = now (sizes .entry); words = now (words .entry); mem = now (mem .entry) }
-        → Done (perform (geometryOf g) v x (meaning (now (s .entry)) (Operation.Copy a)) next) r (record { sizes = now (sizes .exit); words = now (words .exit); mem = now (mem .exit) }) (now (counts .exit))) ⌝ }
+        → Done (perform (config (geometryOf g) v) x (meaning (now (s .entry)) (Operation.Copy a)) next) r (record { sizes = now (sizes .exit); words = now (words .exit); mem = now (mem .exit) }) (now (counts .exit))) ⌝ }
 {
     let error = copy_error(g, sizes, s, e, f, a);
     if error != 0 {
@@ -201,7 +199,7 @@ fn clone_status(
 ) -> u32
     requires { ⌜ EditKnown (geometryOf g) (record { sizes = now sizes; words = now words; mem = now mem }) (now counts) f × (e < geometryOf g .F) ⌝ }
     ensures { λ r. ⌜ ((v : List ℕ) (x : State) (next : ℕ) → x .saved ≡ some e → x .current ≡ some f → x .store ≡ record { sizes = now (sizes .entry); words = now (words .entry); mem = now (mem .entry) }
-        → Done (perform (geometryOf g) v x (meaning (now (s .entry)) (Operation.Clone a)) next) r (record { sizes = now (sizes .exit); words = now (words .exit); mem = now (mem .entry) }) (now (counts .exit))) ⌝ }
+        → Done (perform (config (geometryOf g) v) x (meaning (now (s .entry)) (Operation.Clone a)) next) r (record { sizes = now (sizes .exit); words = now (words .exit); mem = now (mem .entry) }) (now (counts .exit))) ⌝ }
 {
     let error = clone_error(g, sizes, s, e, f, a);
     if error != 0 {
@@ -241,7 +239,7 @@ pub fn copy(
 ) -> Answer
     requires { ⌜ Runs (geometryOf g) (now v) (now s) (stateOf current saved (record { sizes = now sizes; words = now words; mem = now mem })) (now counts) (now reply) at ⌝ }
     ensures { λ r. ⌜ ((next : ℕ) → Answered
-        (perform (geometryOf g) (now (v .entry)) (stateOf current saved (record { sizes = now (sizes .entry); words = now (words .entry); mem = now (mem .entry) }))
+        (perform (config (geometryOf g) (now (v .entry))) (stateOf current saved (record { sizes = now (sizes .entry); words = now (words .entry); mem = now (mem .entry) }))
         (meaning (now (s .entry)) (Operation.Copy a)) next)
         r (record { sizes = now (sizes .exit); words = now (words .exit); mem = now (mem .exit) }) (now (counts .exit)) at (now (reply .entry)) (now (reply .exit))) ⌝ }
 {
@@ -297,7 +295,7 @@ pub fn clone(
 ) -> Answer
     requires { ⌜ Runs (geometryOf g) (now v) (now s) (stateOf current saved (record { sizes = now sizes; words = now words; mem = now mem })) (now counts) (now reply) at ⌝ }
     ensures { λ r. ⌜ ((next : ℕ) → Answered
-        (perform (geometryOf g) (now (v .entry)) (stateOf current saved (record { sizes = now (sizes .entry); words = now (words .entry); mem = now (mem .entry) }))
+        (perform (config (geometryOf g) (now (v .entry))) (stateOf current saved (record { sizes = now (sizes .entry); words = now (words .entry); mem = now (mem .entry) }))
         (meaning (now (s .entry)) (Operation.Clone a)) next)
         r (record { sizes = now (sizes .exit); words = now (words .exit); mem = now (mem .entry) }) (now (counts .exit)) at (now (reply .entry)) (now (reply .exit))) ⌝ }
 {

@@ -5,13 +5,12 @@ ghost use mathlib.Core.List.{List};
 ghost use mathlib.Core.Option.{some};
 ghost use Prim.Native.Nat.{ℕ, _+_, _^_, _<_, _≤_, min};
 ghost use lib.ListN.{length};
-ghost use Rattle.rules.specs.Geometry.{goodGeometry};
+ghost use Rattle.rules.specs.Lists.{first};
+ghost use Rattle.rules.specs.Store.{goodGeometry, Store};
+ghost use Rattle.rules.specs.Run.{State, noFile, errors, perform, config};
 ghost use Rattle.store.specs.Lent.{geometryOf};
-ghost use Rattle.rules.specs.Store.{Store};
-ghost use Rattle.rules.specs.Calls.{first};
 ghost use Rattle.store.specs.Edits.{EditKnown};
 ghost use Rattle.compound.specs.Decoded.{meaning};
-ghost use Rattle.rules.specs.Run.{State, noFile, errors, perform};
 ghost use Rattle.compound.specs.Runner.{stateOf, Runs, Done, Answered};
 use crate::answer::Answer;
 use crate::answer::Handle;
@@ -94,7 +93,7 @@ fn write_status(
 ) -> u32
     requires { ⌜ EditKnown (geometryOf g) (record { sizes = now sizes; words = now words; mem = now mem }) (now counts) f ⌝ }
     ensures { λ r. ⌜ ((v : List ℕ) (x : State) (next : ℕ) → x .current ≡ some f → x .store ≡ record { sizes = now (sizes .entry); words = now (words .entry); mem = now (mem .entry) }
-        → Done (perform (geometryOf g) v x (meaning (now (s .entry)) (Operation.Write a)) next) r (record { sizes = now (sizes .exit); words = now (words .exit); mem = now (mem .exit) }) (now (counts .exit))) ⌝ }
+        → Done (perform (config (geometryOf g) v) x (meaning (now (s .entry)) (Operation.Write a)) next) r (record { sizes = now (sizes .exit); words = now (words .exit); mem = now (mem .exit) }) (now (counts .exit))) ⌝ }
 {
     let e = write_error(g, s, a);
     if e != 0 {
@@ -119,7 +118,7 @@ fn allocate_status(
 ) -> u32
     requires { ⌜ EditKnown (geometryOf g) (record { sizes = now sizes; words = now words; mem = now mem }) (now counts) f ⌝ }
     ensures { λ r. ⌜ ((v : List ℕ) (x : State) (next : ℕ) → x .current ≡ some f → x .store ≡ record { sizes = now (sizes .entry); words = now (words .entry); mem = now (mem .entry) }
-        → Done (perform (geometryOf g) v x (meaning (now (s .entry)) (Operation.Allocate a)) next) r (record { sizes = now (sizes .exit); words = now (words .exit); mem = now (mem .entry) }) (now (counts .exit))) ⌝ }
+        → Done (perform (config (geometryOf g) v) x (meaning (now (s .entry)) (Operation.Allocate a)) next) r (record { sizes = now (sizes .exit); words = now (words .exit); mem = now (mem .entry) }) (now (counts .exit))) ⌝ }
 {
     let e = allocate_error(g, s, a);
     if e != 0 {
@@ -157,7 +156,7 @@ fn deallocate_status(
 ) -> u32
     requires { ⌜ EditKnown (geometryOf g) (record { sizes = now sizes; words = now words; mem = now mem }) (now counts) f ⌝ }
     ensures { λ r. ⌜ ((v : List ℕ) (x : State) (next : ℕ) → x .current ≡ some f → x .store ≡ record { sizes = now (sizes .entry); words = now (words .entry); mem = now (mem .entry) }
-        → Done (perform (geometryOf g) v x (meaning (now (s .entry)) (Operation.Deallocate a)) next) r (record { sizes = now (sizes .entry); words = now (words .exit); mem = now (mem .exit) }) (now (counts .exit))) ⌝ }
+        → Done (perform (config (geometryOf g) v) x (meaning (now (s .entry)) (Operation.Deallocate a)) next) r (record { sizes = now (sizes .entry); words = now (words .exit); mem = now (mem .exit) }) (now (counts .exit))) ⌝ }
 {
     let e = deallocate_error(g, s, a);
     if e != 0 {
@@ -186,7 +185,7 @@ pub fn write(
 ) -> Answer
     requires { ⌜ Runs (geometryOf g) (now v) (now s) (stateOf current saved (record { sizes = now sizes; words = now words; mem = now mem })) (now counts) (now reply) at ⌝ }
     ensures { λ r. ⌜ ((next : ℕ) → Answered
-        (perform (geometryOf g) (now (v .entry)) (stateOf current saved (record { sizes = now (sizes .entry); words = now (words .entry); mem = now (mem .entry) }))
+        (perform (config (geometryOf g) (now (v .entry))) (stateOf current saved (record { sizes = now (sizes .entry); words = now (words .entry); mem = now (mem .entry) }))
         (meaning (now (s .entry)) (Operation.Write a)) next)
         r (record { sizes = now (sizes .exit); words = now (words .exit); mem = now (mem .exit) }) (now (counts .exit)) at (now (reply .entry)) (now (reply .exit))) ⌝ }
 {
@@ -230,7 +229,7 @@ pub fn allocate(
 ) -> Answer
     requires { ⌜ Runs (geometryOf g) (now v) (now s) (stateOf current saved (record { sizes = now sizes; words = now words; mem = now mem })) (now counts) (now reply) at ⌝ }
     ensures { λ r. ⌜ ((next : ℕ) → Answered
-        (perform (geometryOf g) (now (v .entry)) (stateOf current saved (record { sizes = now (sizes .entry); words = now (words .entry); mem = now (mem .entry) }))
+        (perform (config (geometryOf g) (now (v .entry))) (stateOf current saved (record { sizes = now (sizes .entry); words = now (words .entry); mem = now (mem .entry) }))
         (meaning (now (s .entry)) (Operation.Allocate a)) next)
         r (record { sizes = now (sizes .exit); words = now (words .exit); mem = now (mem .entry) }) (now (counts .exit)) at (now (reply .entry)) (now (reply .exit))) ⌝ }
 {
@@ -264,7 +263,7 @@ pub fn deallocate(
 ) -> Answer
     requires { ⌜ Runs (geometryOf g) (now v) (now s) (stateOf current saved (record { sizes = now sizes; words = now words; mem = now mem })) (now counts) (now reply) at ⌝ }
     ensures { λ r. ⌜ ((next : ℕ) → Answered
-        (perform (geometryOf g) (now (v .entry)) (stateOf current saved (record { sizes = now (sizes .entry); words = now (words .entry); mem = now (mem .entry) }))
+        (perform (config (geometryOf g) (now (v .entry))) (stateOf current saved (record { sizes = now (sizes .entry); words = now (words .entry); mem = now (mem .entry) }))
         (meaning (now (s .entry)) (Operation.Deallocate a)) next)
         r (record { sizes = now (sizes .entry); words = now (words .exit); mem = now (mem .exit) }) (now (counts .exit)) at (now (reply .entry)) (now (reply .exit))) ⌝ }
 {

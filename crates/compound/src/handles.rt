@@ -4,13 +4,13 @@ ghost use mathlib.Core.List.{List};
 ghost use mathlib.Core.Option.{some};
 ghost use Prim.Native.Nat.{ℕ, _+_, _^_, _<_, _≤_};
 ghost use lib.ListN.{length};
-ghost use Rattle.rules.specs.Geometry as G;
+ghost use Rattle.rules.specs.Store as G;
 ghost use Rattle.store.specs.Lent.{geometryOf};
 ghost use Rattle.rules.specs.Store.{Store};
-ghost use Rattle.store.specs.Plan.{Counted};
 ghost use Rattle.rules.specs.Operation.{GETFH, SAVEFH, RESTOREFH};
+ghost use Rattle.rules.specs.Run.{perform, config};
+ghost use Rattle.store.specs.Plan.{Counted};
 ghost use Rattle.compound.specs.Decoded.{meaning};
-ghost use Rattle.rules.specs.Run.{perform};
 ghost use Rattle.compound.specs.Runner.{fileIn, stateOf, Known, Answered};
 use crate::answer::Answer;
 use crate::answer::Handle;
@@ -25,7 +25,7 @@ use xdr::Word;
 pub fn get_fh(current: Handle, saved: Handle, reply: &mut [u8], at: usize) -> Answer
     requires { ⌜ ((f : ℕ) → fileIn current ≡ some f → f < 2 ^ 32) × (at + 16 ≤ length (now reply)) ⌝ }
     ensures { λ r. ⌜ ((g : G.Geometry) (v : List ℕ) (st : Store) (counts : List ℕ) (next : ℕ) → Known g (stateOf current saved st) → Counted (st .words) counts
-        → Answered (perform g v (stateOf current saved st) GETFH next)
+        → Answered (perform (config g v) (stateOf current saved st) GETFH next)
         r st counts at (now (reply .entry)) (now (reply .exit))) ⌝ }
 {
     let Handle::File(f) = current else {
@@ -52,7 +52,7 @@ pub fn get_fh(current: Handle, saved: Handle, reply: &mut [u8], at: usize) -> An
 pub fn save_fh(current: Handle, saved: Handle, reply: &mut [u8], at: usize) -> Answer
     requires { ⌜ at + 8 ≤ length (now reply) ⌝ }
     ensures { λ r. ⌜ ((g : G.Geometry) (v : List ℕ) (st : Store) (counts : List ℕ) (next : ℕ) → Known g (stateOf current saved st) → Counted (st .words) counts
-        → Answered (perform g v (stateOf current saved st) SAVEFH next)
+        → Answered (perform (config g v) (stateOf current saved st) SAVEFH next)
         r st counts at (now (reply .entry)) (now (reply .exit))) ⌝ }
 {
     let Handle::File(f) = current else {
@@ -71,7 +71,7 @@ pub fn save_fh(current: Handle, saved: Handle, reply: &mut [u8], at: usize) -> A
 pub fn restore_fh(current: Handle, saved: Handle, reply: &mut [u8], at: usize) -> Answer
     requires { ⌜ at + 8 ≤ length (now reply) ⌝ }
     ensures { λ r. ⌜ ((g : G.Geometry) (v : List ℕ) (st : Store) (counts : List ℕ) (next : ℕ) → Known g (stateOf current saved st) → Counted (st .words) counts
-        → Answered (perform g v (stateOf current saved st) RESTOREFH next)
+        → Answered (perform (config g v) (stateOf current saved st) RESTOREFH next)
         r st counts at (now (reply .entry)) (now (reply .exit))) ⌝ }
 {
     let Handle::File(f) = saved else {
@@ -98,7 +98,7 @@ pub fn put_fh(
 ) -> Answer
     requires { ⌜ at + 8 ≤ length (now reply) ⌝ }
     ensures { λ r. ⌜ ((v : List ℕ) (st : Store) (counts : List ℕ) (next : ℕ) → Known (geometryOf g) (stateOf current saved st) → Counted (st .words) counts
-        → Answered (perform (geometryOf g) v (stateOf current saved st) (meaning (now (s .entry)) (Operation.PutFh d)) next)
+        → Answered (perform (config (geometryOf g) v) (stateOf current saved st) (meaning (now (s .entry)) (Operation.PutFh d)) next)
         r st counts at (now (reply .entry)) (now (reply .exit))) ⌝ }
 {
     let h = xdr::part(s, d);

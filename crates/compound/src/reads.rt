@@ -6,14 +6,15 @@ ghost use Prim.Native.Nat.{ℕ, _+_, _-_, _≤_, min};
 ghost use lib.ListN.{length, getD};
 ghost use lib.Dec.{leb};
 ghost use Rattle.xdr.specs.Bytes.{Written};
-ghost use Rattle.rules.specs.Geometry as G;
+ghost use Rattle.rules.specs.Store as G;
 ghost use Rattle.store.specs.Lent.{geometryOf};
-ghost use Rattle.rules.specs.Calls.{first};
+ghost use Rattle.rules.specs.Lists.{first};
 ghost use Rattle.rules.specs.Store.{Store};
-ghost use Rattle.store.specs.Plan.{Counted};
 ghost use Rattle.rules.specs.Read.{granted};
+ghost use Rattle.rules.specs.Operation.{readReply, readPlusReply, seekReply};
+ghost use Rattle.rules.specs.Run.{State, errors, perform, config};
+ghost use Rattle.store.specs.Plan.{Counted};
 ghost use Rattle.compound.specs.Decoded.{meaning};
-ghost use Rattle.rules.specs.Run.{State, errors, readReply, readPlusReply, seekReply, perform};
 ghost use Rattle.compound.specs.Runner.{stateOf, Known, Shows, Answered};
 use crate::answer::Answer;
 use crate::answer::Handle;
@@ -152,7 +153,7 @@ pub fn read(
 ) -> Answer
     requires { ⌜ Known (geometryOf g) (stateOf current saved (record { sizes = now sizes; words = now words; mem = now mem })) × (at + 2179 ≤ length (now reply)) ⌝ }
     ensures { λ r. ⌜ ((v counts : List ℕ) (next : ℕ) → Counted (now (words .entry)) counts → Answered
-        (perform (geometryOf g) v (stateOf current saved (record { sizes = now (sizes .entry); words = now (words .entry); mem = now (mem .entry) }))
+        (perform (config (geometryOf g) v) (stateOf current saved (record { sizes = now (sizes .entry); words = now (words .entry); mem = now (mem .entry) }))
         (meaning (now (s .entry)) (Operation.Read a)) next)
         r (record { sizes = now (sizes .entry); words = now (words .entry); mem = now (mem .entry) }) counts at (now (reply .entry)) (now (reply .exit))) ⌝ }
 {
@@ -200,7 +201,7 @@ pub fn read_plus(
 ) -> Answer
     requires { ⌜ Known (geometryOf g) (stateOf current saved (record { sizes = now sizes; words = now words; mem = now mem })) × (at + 2179 ≤ length (now reply)) ⌝ }
     ensures { λ r. ⌜ ((v counts : List ℕ) (next : ℕ) → Counted (now (words .entry)) counts → Answered
-        (perform (geometryOf g) v (stateOf current saved (record { sizes = now (sizes .entry); words = now (words .entry); mem = now (mem .entry) }))
+        (perform (config (geometryOf g) v) (stateOf current saved (record { sizes = now (sizes .entry); words = now (words .entry); mem = now (mem .entry) }))
         (meaning (now (s .entry)) (Operation.ReadPlus a)) next)
         r (record { sizes = now (sizes .entry); words = now (words .entry); mem = now (mem .entry) }) counts at (now (reply .entry)) (now (reply .exit))) ⌝ }
 {
@@ -265,7 +266,7 @@ pub fn seek(
 ) -> Answer
     requires { ⌜ Known (geometryOf g) (stateOf current saved (record { sizes = now sizes; words = now words; mem = now mem })) × (at + 2179 ≤ length (now reply)) ⌝ }
     ensures { λ r. ⌜ ((v counts : List ℕ) (next : ℕ) → Counted (now (words .entry)) counts → Answered
-        (perform (geometryOf g) v (stateOf current saved (record { sizes = now (sizes .entry); words = now (words .entry); mem = now (mem .entry) }))
+        (perform (config (geometryOf g) v) (stateOf current saved (record { sizes = now (sizes .entry); words = now (words .entry); mem = now (mem .entry) }))
         (meaning (now (s .entry)) (Operation.Seek a)) next)
         r (record { sizes = now (sizes .entry); words = now (words .entry); mem = now (mem .entry) }) counts at (now (reply .entry)) (now (reply .exit))) ⌝ }
 {

@@ -4,7 +4,7 @@ ghost use mathlib.Core.Bool.{true};
 ghost use Prim.Native.Nat.{_+_, _≤_};
 ghost use lib.ListN.{length};
 ghost use Rattle.xdr.specs.Bytes.{Written};
-ghost use Rattle.rules.specs.Run.{writeResult, copyResult, fileSync};
+ghost use Rattle.rules.specs.Operation.{writeResult, copyResult, fileSync};
 
 // FILE_SYNC4.
 const FILE_SYNC: u32 = 2;

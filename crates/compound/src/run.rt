@@ -5,11 +5,11 @@ ghost use Prim.Native.Nat.{ℕ, _+_, _*_, _<_, _≤_};
 ghost use lib.ListN.{length};
 ghost use Rattle.store.specs.Lent.{geometryOf};
 ghost use Rattle.rules.specs.Store.{Store};
-ghost use Rattle.store.specs.Plan.{Counted};
 ghost use Rattle.rules.specs.Operation.{bad, items};
+ghost use Rattle.rules.specs.Run.{failed, perform, reached, config};
+ghost use Rattle.rules.specs.Calls.{fresh};
+ghost use Rattle.store.specs.Plan.{Counted};
 ghost use Rattle.compound.specs.Decoded.{meaning};
-ghost use Rattle.rules.specs.Run.{failed, perform, reached};
-ghost use Rattle.rules.specs.Serve.{fresh};
 ghost use Rattle.compound.specs.Runner.{stateOf, Runs, Answered, eventAt, Turned, RunsAll, RanAll};
 use crate::answer::Answer;
 use crate::answer::Handle;
@@ -51,7 +51,7 @@ fn operation(
 ) -> Answer
     requires { ⌜ Runs (geometryOf g) (now v) (now s) (stateOf current saved (record { sizes = now sizes; words = now words; mem = now mem })) (now counts) (now reply) at ⌝ }
     ensures { λ r. ⌜ ((next : ℕ) → Answered
-        (perform (geometryOf g) (now (v .entry)) (stateOf current saved (record { sizes = now (sizes .entry); words = now (words .entry); mem = now (mem .entry) }))
+        (perform (config (geometryOf g) (now (v .entry))) (stateOf current saved (record { sizes = now (sizes .entry); words = now (words .entry); mem = now (mem .entry) }))
         (meaning (now (s .entry)) o) next)
         r (record { sizes = now (sizes .exit); words = now (words .exit); mem = now (mem .exit) }) (now (counts .exit)) at (now (reply .entry)) (now (reply .exit))) ⌝ }
 {
@@ -153,7 +153,7 @@ fn step(
     reply: &mut [u8],
 ) -> Progress
     requires { ⌜ Runs (geometryOf g) (now v) (now s) (stateOf (r .current) (r .saved) (record { sizes = now sizes; words = now words; mem = now mem })) (now counts) (now reply) (r .out) × (r .count < 12) ⌝ }
-    ensures { λ r′. ⌜ Turned (perform (geometryOf g) (now (v .entry)) (stateOf (r .current) (r .saved) (record { sizes = now (sizes .entry); words = now (words .entry); mem = now (mem .entry) })) (meaning (now (s .entry)) o) (next .at))
+    ensures { λ r′. ⌜ Turned (perform (config (geometryOf g) (now (v .entry))) (stateOf (r .current) (r .saved) (record { sizes = now (sizes .entry); words = now (words .entry); mem = now (mem .entry) })) (meaning (now (s .entry)) o) (next .at))
         r r′ (record { sizes = now (sizes .exit); words = now (words .exit); mem = now (mem .exit) }) (now (counts .exit)) (now (reply .entry)) (now (reply .exit)) ⌝ }
 {
     let current = r.current;
@@ -241,7 +241,7 @@ pub fn run(
     reply: &mut [u8],
 ) -> Progress
     requires { ⌜ RunsAll (geometryOf g) (now v) (now s) (record { sizes = now sizes; words = now words; mem = now mem }) (now counts) ops (now reply) out ⌝ }
-    ensures { λ r. ⌜ RanAll (reached (geometryOf g) (now (v .entry)) (fresh (record { sizes = now (sizes .entry); words = now (words .entry); mem = now (mem .entry) })) (items (now (s .entry)) ops read))
+    ensures { λ r. ⌜ RanAll (reached (config (geometryOf g) (now (v .entry))) (fresh (record { sizes = now (sizes .entry); words = now (words .entry); mem = now (mem .entry) })) (items (now (s .entry)) ops read))
         (record { sizes = now (sizes .entry); words = now (words .entry); mem = now (mem .entry) }) read out r (record { sizes = now (sizes .exit); words = now (words .exit); mem = now (mem .exit) }) (now (reply .entry)) (now (reply .exit)) ⌝ }
 {
     let mut r = Progress {

@@ -6,14 +6,14 @@ ghost use mathlib.Core.List.{[], _∷_, _++_};
 ghost use Prim.Native.Nat.{_+_, _≤_};
 ghost use lib.ListN.{length};
 ghost use Rattle.xdr.specs.Bytes.{partOf, Written};
-ghost use Rattle.xdr.specs.Encode.{u32, opaque, opaqueSize};
+ghost use Rattle.xdr.specs.Encode.{opaqueSize};
 ghost use Rattle.store.specs.Lent.{geometryOf};
-ghost use Rattle.rules.specs.Calls.{first};
+ghost use Rattle.rules.specs.Lists.{first};
+ghost use Rattle.rules.specs.Operation.{MINOR-VERS-MISMATCH, TOO-MANY-OPS};
+ghost use Rattle.rules.specs.Calls.{compound, replyHead, Gives, served, Contract};
+ghost use Rattle.rules.specs.Run.{config};
 ghost use Rattle.store.specs.Tables.{Shaped};
 ghost use Rattle.store.specs.Survey.{TableFits, TableReady};
-ghost use Rattle.rules.specs.Status.{MINOR-VERS-MISMATCH, TOO-MANY-OPS};
-ghost use Rattle.rules.specs.Serve.{compound, Gives, served};
-ghost use Rattle.rules.specs.Claim.{Contract};
 ghost use Rattle.compound.specs.Runner.{Serves, headerOf};
 use crate::answer::Answer;
 use crate::decode::HeaderRead;
@@ -67,7 +67,7 @@ fn header_status(minor: u32, ops: u32) -> u32
 // The head of the reply: status, tag, number of results.
 fn put_head(reply: &mut [u8], status: u32, tag: &[u8], count: u32) -> usize
     requires { ⌜ (length (now tag) ≤ 1024) × (1036 ≤ length (now reply)) ⌝ }
-    ensures { λ r. ⌜ Written (u32 status ++ opaque (now (tag .entry)) ++ u32 count) (8 + opaqueSize (length (now (tag .entry)))) 0
+    ensures { λ r. ⌜ Written (replyHead .write (status, (now (tag .entry), count))) (8 + opaqueSize (length (now (tag .entry)))) 0
         (now (reply .entry)) (now (reply .exit)) r ⌝ }
 {
     let at = xdr::put_u32(reply, 0, status);
@@ -93,7 +93,7 @@ fn serve_operations(
 ) -> Served
     requires { ⌜ Serves (geometryOf g) (now v) (now s) (record { sizes = now sizes; words = now words; mem = now mem }) (now counts) (now reply) × (length (partOf (now s) d) ≤ 1024) ⌝ }
     ensures { λ r. ⌜ Gives (served (now (reply .entry)) (record { sizes = now (sizes .entry); words = now (words .entry); mem = now (mem .entry) }) (headerOf (now (s .entry)) d minor ops) (c .at)
-        (compound (geometryOf g) (now (v .entry)) (record { sizes = now (sizes .entry); words = now (words .entry); mem = now (mem .entry) }) (now (s .entry)) (headerOf (now (s .entry)) d minor ops) (c .at)))
+        (compound (config (geometryOf g) (now (v .entry))) (record { sizes = now (sizes .entry); words = now (words .entry); mem = now (mem .entry) }) (now (s .entry)) (headerOf (now (s .entry)) d minor ops) (c .at)))
         (record {
           number = r .number;
           read = r .read;
@@ -134,7 +134,7 @@ fn serve_counted(
     reply: &mut [u8],
 ) -> Served
     requires { ⌜ TableReady (geometryOf g) (record { sizes = now sizes; words = now words; mem = now mem }) (now counts) × (length (now v) ≡ 8) ⌝ }
-    ensures { λ r. ⌜ Contract (record { geometry = geometryOf g; verifier = now (v .entry); request = now (s .entry); buffer = now (reply .entry) })
+    ensures { λ r. ⌜ Contract (record { config = config (geometryOf g) (now (v .entry)); request = now (s .entry); buffer = now (reply .entry) })
         (record { sizes = now (sizes .entry); words = now (words .entry); mem = now (mem .entry) })
         (record {
           number = r .number;
@@ -171,7 +171,7 @@ fn serve_in(
     reply: &mut [u8],
 ) -> Served
     requires { ⌜ TableFits (geometryOf g) (record { sizes = now sizes; words = now words; mem = now mem }) (now counts) × (length (now v) ≡ 8) ⌝ }
-    ensures { λ r. ⌜ Contract (record { geometry = geometryOf g; verifier = now (v .entry); request = now (s .entry); buffer = now (reply .entry) })
+    ensures { λ r. ⌜ Contract (record { config = config (geometryOf g) (now (v .entry)); request = now (s .entry); buffer = now (reply .entry) })
         (record { sizes = now (sizes .entry); words = now (words .entry); mem = now (mem .entry) })
         (record {
           number = r .number;
@@ -196,7 +196,7 @@ fn serve_shaped(
     reply: &mut [u8],
 ) -> Served
     requires { ⌜ Shaped (geometryOf g) (record { sizes = now sizes; words = now words; mem = now mem }) × (length (now v) ≡ 8) ⌝ }
-    ensures { λ r. ⌜ Contract (record { geometry = geometryOf g; verifier = now (v .entry); request = now (s .entry); buffer = now (reply .entry) })
+    ensures { λ r. ⌜ Contract (record { config = config (geometryOf g) (now (v .entry)); request = now (s .entry); buffer = now (reply .entry) })
         (record { sizes = now (sizes .entry); words = now (words .entry); mem = now (mem .entry) })
         (record {
           number = r .number;
@@ -220,7 +220,7 @@ pub fn serve(
     s: &[u8],
     reply: &mut [u8],
 ) -> Served
-    ensures { λ r. ⌜ Contract (record { geometry = geometryOf g; verifier = now (v .entry); request = now (s .entry); buffer = now (reply .entry) })
+    ensures { λ r. ⌜ Contract (record { config = config (geometryOf g) (now (v .entry)); request = now (s .entry); buffer = now (reply .entry) })
         (record { sizes = now (sizes .entry); words = now (words .entry); mem = now (mem .entry) })
         (record {
           number = r .number;

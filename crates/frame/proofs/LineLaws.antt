@@ -12,15 +12,13 @@ use lib.Seq.{length-take-le}
 use lib.Dec.{ltb, eqb}
 use borrow.Author.Tests.{lt-ltb, le-ltb, eq-eqb, ne-eqb}
 use Rattle.xdr.specs.Bytes.{splice, Written}
-use Rattle.rules.specs.Geometry.{Geometry}
-use Rattle.rules.specs.Store.{Store}
-use Rattle.rules.specs.Serve.{Outcome}
-use Rattle.rules.specs.Claim.{Call, answer, Contract}
-use Rattle.rules.proofs.AnswerLaws.{refused-number}
-use Rattle.rules.proofs.ReplyReads.{reply-bound, reply-length}
+use Rattle.rules.specs.Store.{Geometry, Store}
+use Rattle.rules.specs.Calls.{Outcome, Call, answer, Contract}
+use Rattle.rules.specs.Line.{hexLine, requestOf, frameGeometry, frameCall, refusalLine, answerRequest, answerLine}
+use Rattle.rules.proofs.AnswerLaws.{refused-number, reply-bound, reply-length}
+use Rattle.rules.specs.Run.{config}
 use Rattle.frame.specs.declared.hex.Request.{Request}
 use Rattle.frame.specs.Hex.{ofRequest, RequestRead}
-use Rattle.rules.specs.Line.{hexLine, requestOf, frameGeometry, frameCall, refusalLine, answerRequest, answerLine}
 use Rattle.frame.specs.LineCall.{lineInto, LinePromise}
 use Rattle.frame.proofs.HexLaws.{length-hex}
 
@@ -32,17 +30,17 @@ whole {bs} {out = out} w = (w .bytes ∙ ap (λ (k : ℕ). bs ++ drop k out) (ze
 -- ---- a request
 
 -- the call with the arguments of a frame
-pub frame-call : {g : Geometry} {buf : List ℕ} (s : List ℕ) (st : Store) {o : Outcome} → g ≡ frameGeometry → buf ≡ replicate 32768 0
-    → Contract (record { geometry = g; verifier = replicate 8 0; request = s; buffer = buf }) st o → Contract (frameCall s) st o
+pub frame-call : {g : Geometry} {buf : List ℕ} (s : List ℕ) (st : Store) {o : Outcome Store} → g ≡ frameGeometry → buf ≡ replicate 32768 0
+    → Contract (record { config = config g (replicate 8 0); request = s; buffer = buf }) st o → Contract (frameCall s) st o
 frame-call s st p r k = rw (← p, ← r) k
 
-module _ (s : List ℕ) (st : Store) {o : Outcome} (k : Contract (frameCall s) st o) where
+module _ (s : List ℕ) (st : Store) {o : Outcome Store} (k : Contract (frameCall s) st o) where
   pub number-small : o .number < 10
   number-small = go (answer (frameCall s) st .number) refl
     where
       go : (n : ℕ) → answer (frameCall s) st .number ≡ n → o .number < 10
       go zero e = omega (arith, k .number)
-      go (suc n) e = omega (arith, k .number, refused-number (frameCall s) st (λ z. omega (arith, z)) .high)
+      go (suc n) e = omega (arith, k .number, refused-number (frameCall s) st (λ z. omega (arith, z)) .number)
 
   pub written-small : o .written ≤ 27184
   written-small = omega (arith, k .written, reply-bound (frameCall s) st)
@@ -110,7 +108,7 @@ request-most : (st : Store) (s : List ℕ) → length (answerRequest st s .line)
 unfolding answerRequest
 request-most st s = go (eqb (o .number) 0)
   where
-    o : Outcome
+    o : Outcome Store
     o = answer (frameCall s) st
 
     go : (t : Bool) → length (cond t (hexLine (take (o .written) (o .reply))) (refusalLine (o .number))) ≤ 54368

@@ -3,7 +3,7 @@ ghost use mathlib.Core.Path.{_≡_};
 ghost use Prim.Native.Nat.{_≤_};
 ghost use lib.ListN.{length, replicate};
 ghost use Rattle.store.specs.Lent.{geometryOf};
-ghost use Rattle.rules.specs.Claim.{Contract};
+ghost use Rattle.rules.specs.Calls.{Contract};
 ghost use Rattle.rules.specs.Line.{frameGeometry, frameCall, answerLine, answerRequest};
 ghost use Rattle.frame.specs.LineCall.{lineInto, LinePromise};
 use crate::hex::Request;

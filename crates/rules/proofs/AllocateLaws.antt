@@ -9,11 +9,11 @@ use native.Mathlib.Omega.{arith}
 use borrow.Author.Tests.{lt-leb}
 use lib.ListN.{length, getD, set, length-set}
 use lib.Seq.{getD-set-same, getD-set-other}
-use Rattle.rules.specs.Geometry.{Geometry}
-use Rattle.rules.specs.Store.{Store, word, sizeOf, wordOf}
-use Rattle.rules.specs.Content.{slotByte, byteAt}
-use Rattle.rules.specs.Edit.{each, firstSlot, slotCount}
-use Rattle.rules.specs.Allocate.{reserve, planAllocate, editAllocate}
+use Rattle.rules.specs.Lists.{each}
+use Rattle.rules.specs.Store.{Geometry, Store, word, sizeOf, wordOf, slotByte, byteAt}
+use Rattle.rules.specs.Edit.{firstSlot, slotCount, edited, allocating}
+use Rattle.rules.proofs.Steps.{reserve, planAllocate}
+use Rattle.rules.proofs.EditForms.{allocate-is}
 use Rattle.rules.proofs.PlanLaws.{each-keeps, set-keeps}
 use Rattle.rules.proofs.ViewLaws.{Local, plan-before}
 use Rattle.rules.proofs.FileLaws.{Sound, Edited, other-words, slots-fit, plan-past}
@@ -72,11 +72,6 @@ plan-reserved at (suc n) k ws h q l u = go (plan-reserved at n (suc k) (reserve 
     go ih (no d) = ih q (omega (arith, d)) (omega arith)
 
 module _ (g : Geometry) (pos : 0 < g .B) (st : Store) (snd : Sound g st) (f off end : ℕ) (hf : f < g .F) (some : off < end) (fits : end ≤ g .S * g .B) where
-  allocate-is : editAllocate g st f off end
-      ≡ record { sizes = set (st .sizes) f (max (sizeOf st f) end); words = planAllocate g (st .words) f off end; mem = st .mem }
-  unfolding editAllocate
-  allocate-is = rw (lt-leb end off some)
-
   in-table : f * g .S + (firstSlot g off + slotCount g off end) ≤ length (st .words)
   in-table = omega (arith, slots-fit g pos off end some fits, snd .slots, mul-le-mul-right (g .S) hf)
 
@@ -95,12 +90,12 @@ module _ (g : Geometry) (pos : 0 < g .B) (st : Store) (snd : Sound g st) (f off 
       plan-past g pos off end some fits f (reserve (f * g .S)) (reserve-local (f * g .S)) (st .words) k (omega arith) ∙ snd .beyond f k hf hk (omega arith)
 
   -- no byte of any file changes
-  pub allocate-bytes : (e i : ℕ) → byteAt g (editAllocate g st f off end) e i ≡ byteAt g st e i
+  pub allocate-bytes : (e i : ℕ) → byteAt g (edited g st (allocating f off end)) e i ≡ byteAt g st e i
   unfolding byteAt
-  allocate-bytes e i = rw allocate-is (same-block g (st .mem) _ _ (i % g .B) (grown .block (e * g .S + i / g .B)))
+  allocate-bytes e i = rw (allocate-is g st f off end some) (same-block g (st .mem) _ _ (i % g .B) (grown .block (e * g .S + i / g .B)))
 
-  pub allocate-edited : Edited g st (editAllocate g st f off end) f (max (sizeOf st f) end)
-  allocate-edited = rw allocate-is record {
+  pub allocate-edited : Edited g st (edited g st (allocating f off end)) f (max (sizeOf st f) end)
+  allocate-edited = rw (allocate-is g st f off end some) record {
     files = length-set (st .sizes) f _;
     slots = grown .slots;
     bytes = refl;
@@ -108,14 +103,14 @@ module _ (g : Geometry) (pos : 0 < g .B) (st : Store) (snd : Sound g st) (f off 
     size = getD-set-same (st .sizes) f _ 0 (rw (snd .files) hf);
     size-other = λ e d. getD-set-other (st .sizes) f e _ 0 d;
     word-other = plan-other;
-    byte-other = λ e i he d h. rw allocate-is at (allocate-bytes e i);
+    byte-other = λ e i he d h. rw (allocate-is g st f off end some) at (allocate-bytes e i);
     beyond = plan-beyond;
-    tail = λ i l h. (rw allocate-is at (allocate-bytes f i)) ∙ snd .tail f i hf (omega arith) h;
+    tail = λ i l h. (rw (allocate-is g st f off end some) at (allocate-bytes f i)) ∙ snd .tail f i hf (omega arith) h;
   }
 
-  pub allocate-reserved : (q : ℕ) → firstSlot g off ≤ q → q < firstSlot g off + slotCount g off end → wordOf g (editAllocate g st f off end .words) f q % 2 ≡ 1
+  pub allocate-reserved : (q : ℕ) → firstSlot g off ≤ q → q < firstSlot g off + slotCount g off end → wordOf g (edited g st (allocating f off end) .words) f q % 2 ≡ 1
   unfolding planAllocate
-  allocate-reserved q l u = rw allocate-is (plan-reserved (f * g .S) (slotCount g off end) (firstSlot g off) (st .words) in-table q l u)
+  allocate-reserved q l u = rw (allocate-is g st f off end some) (plan-reserved (f * g .S) (slotCount g off end) (firstSlot g off) (st .words) in-table q l u)
 
-  pub allocate-r : (p : ℕ) → getD (st .words) p 0 % 2 ≡ 1 → getD (editAllocate g st f off end .words) p 0 % 2 ≡ 1
-  allocate-r p e = rw allocate-is (grown .r p e)
+  pub allocate-r : (p : ℕ) → getD (st .words) p 0 % 2 ≡ 1 → getD (edited g st (allocating f off end) .words) p 0 % 2 ≡ 1
+  allocate-r p e = rw (allocate-is g st f off end some) (grown .r p e)

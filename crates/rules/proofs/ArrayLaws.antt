@@ -7,31 +7,23 @@ use mathlib.Core.Logic.{_≢_, _⊎_, inl, inr}
 use native.Mathlib.Nat.{le-refl, le-trans, zero-add, add-zero, add-sub-of-le, add-sub-cancel-left, mul-le-mul-right, mul-add-div-right, div-add-mod'}
 use native.Mathlib.Decide.{ℕ-discrete, decLe, decLt}
 use native.Mathlib.Omega.{arith}
-use borrow.Author.Tests.{lt-ltb, le-ltb, le-leb, eq-eqb, ne-eqb}
+use borrow.Author.Tests.{lt-ltb, le-ltb, eq-eqb, ne-eqb}
 use lib.ListN.{length, getD, take, drop, replicate, length-append, length-take, length-drop, length-replicate, take-append-drop, List·getD-append, List·getD-eq-default}
 use lib.Seq.{ext-getD, getD-append-add, getD-take, getD-drop}
 use lib.Dec.{leb, ltb, eqb}
 use Rattle.xdr.specs.Bytes.{splice}
 use Rattle.xdr.proofs.BytesLaws.{length-splice, splice-in, splice-below, splice-above}
-use Rattle.rules.specs.Geometry.{Geometry}
-use Rattle.rules.specs.Store.{Store, sizeOf}
-use Rattle.rules.specs.Content.{byteAt, content}
-use Rattle.rules.specs.Sound.{ceilDiv}
-use Rattle.rules.specs.Edit.{within}
-use Rattle.rules.specs.Write.{editWrite}
-use Rattle.rules.specs.Allocate.{editAllocate}
-use Rattle.rules.specs.Deallocate.{editDeallocate}
-use Rattle.rules.specs.Clone.{editClone}
-use Rattle.rules.specs.Copy.{sourceCount, editCopy}
-use Rattle.rules.specs.Blocks.{need}
-use Rattle.rules.specs.Arrays.{extend, arrayWrite, arrayAllocate, arrayDeallocate, arrayCopy, arrayClone, arrayCount}
+use Rattle.rules.specs.Lists.{ceilDiv}
+use Rattle.rules.specs.Store.{Geometry, Store, sizeOf, byteAt, content, need}
+use Rattle.rules.specs.Edit.{within, edited, allocating, cloning, copying, deallocating, writing}
+use Rattle.rules.specs.Claim.{extend, arrayWrite, arrayZero}
 use Rattle.rules.proofs.ViewLaws.{length-tab, getD-tab}
 use Rattle.rules.proofs.FileLaws.{ceil-le, le-ceil, Sound, Edited}
-use Rattle.rules.proofs.WriteLaws.{inside, outside, write-is, write-bytes, write-edited}
+use Rattle.rules.proofs.WriteLaws.{inside, outside, write-bytes, write-edited}
 use Rattle.rules.proofs.AllocateLaws.{allocate-bytes, allocate-edited}
-use Rattle.rules.proofs.DeallocateLaws.{deallocate-is, deallocate-bytes, deallocate-edited}
+use Rattle.rules.proofs.DeallocateLaws.{deallocate-bytes, deallocate-edited}
 use Rattle.rules.proofs.CloneLaws.{clone-bytes, clone-edited}
-use Rattle.rules.proofs.CopyLaws.{copy-is-write}
+use Rattle.rules.proofs.EditForms.{edited-none, write-is, copy-is-write, deallocate-is}
 
 -- ---- places of a region
 
@@ -116,18 +108,18 @@ module _ (xs : List ℕ) (off : ℕ) (d : List ℕ) (some : 0 < length d) where
       ∙ ap (cond (within off (off + length d) i) (getD d (i - off) 0)) (getD-extend xs (off + length d) i)
 
 module _ (xs : List ℕ) (off n : ℕ) where
-  deallocate-none : min n (length xs - off) ≡ 0 → arrayDeallocate xs off n ≡ xs
-  unfolding arrayDeallocate splice
-  deallocate-none e = rw (e, add-zero off) (take-append-drop off xs)
+  zero-none : min n (length xs - off) ≡ 0 → arrayZero xs off n ≡ xs
+  unfolding arrayZero splice
+  zero-none e = rw (e, add-zero off) (take-append-drop off xs)
 
   module _ (h : off ≤ length xs) where
-    length-deallocate : length (arrayDeallocate xs off n) ≡ length xs
-    unfolding arrayDeallocate
-    length-deallocate = length-splice xs off _ (rw length-replicate (omega arith))
+    length-zero : length (arrayZero xs off n) ≡ length xs
+    unfolding arrayZero
+    length-zero = length-splice xs off _ (rw length-replicate (omega arith))
 
-    getD-deallocate : (i : ℕ) → i < length xs → getD (arrayDeallocate xs off n) i 0 ≡ cond (within off (off + n) i) 0 (getD xs i 0)
-    unfolding arrayDeallocate
-    getD-deallocate i l =
+    getD-zero : (i : ℕ) → i < length xs → getD (arrayZero xs off n) i 0 ≡ cond (within off (off + n) i) 0 (getD xs i 0)
+    unfolding arrayZero
+    getD-zero i l =
         let k : ℕ = min n (length xs - off) in
         let e : off + k ≡ min (off + n) (length xs) = omega arith in
         getD-splice xs off (replicate k 0) i h
@@ -194,55 +186,57 @@ ceil-after {b} pos a c e =
 
 -- ---- the edits of file f
 
+-- a copy of n bytes, then zeros to the end of its last slot of B bytes
+unfoldable pub arrayClone : ℕ → List ℕ → List ℕ → ℕ → ℕ → ℕ → List ℕ
+arrayClone B src xs soff off n =
+    cond (eqb n 0) xs (arrayZero (arrayWrite xs off (take n (drop soff src))) (off + n) (ceilDiv (off + n) B * B - (off + n)))
+
 module _ (g : Geometry) (pos : 0 < g .B) (st : Store) (snd : Sound g st) (f : ℕ) (hf : f < g .F) where
   old : List ℕ
   old = content g st f
 
   -- WRITE, and the write of COPY: `new` gives the n bytes d
   pub write-content : (off n : ℕ) (d : List ℕ) (new : ℕ → ℕ) → length d ≡ n → ((j : ℕ) → j < n → new (off + j) ≡ getD d j 0)
-      → (0 < n → off + n ≤ g .S * g .B) → need (editWrite g st f off (off + n) new) ≤ g .N
-      → EditsArray g st (editWrite g st f off (off + n) new) f (λ xs. arrayWrite xs off d)
-  unfolding editWrite arrayWrite old
+      → (0 < n → off + n ≤ g .S * g .B) → need (edited g st (writing f off (off + n) new) .words) ≤ g .N
+      → EditsArray g st (edited g st (writing f off (off + n) new)) f (λ xs. arrayWrite xs off d)
+  unfolding arrayWrite old
   write-content off n d new len same fits room = go (decLt 0 n)
     where
-      go : Dec (0 < n) → EditsArray g st (editWrite g st f off (off + n) new) f (λ xs. arrayWrite xs off d)
-      go (no z) = rw (le-leb (off + n) off (omega (arith, z))) (unedited g st f (λ xs. arrayWrite xs off d) (rw (eq-eqb (length d) 0 (omega (arith, z, len)))))
+      go : Dec (0 < n) → EditsArray g st (edited g st (writing f off (off + n) new)) f (λ xs. arrayWrite xs off d)
+      go (no z) = rw (edited-none g st (writing f off (off + n) new) (omega (arith, z))) (unedited g st f (λ xs. arrayWrite xs off d) (rw (eq-eqb (length d) 0 (omega (arith, z, len)))))
       go (yes l) =
           let big : off + n ≤ g .S * g .B = fits l in
-          let room′ = rw (write-is g pos st snd f off (off + n) hf (omega arith) big new) at room in
+          let room′ = rw (write-is g st f off (off + n) new (omega arith)) at room in
           edited-array g st snd _ f _ (λ xs. arrayWrite xs off d) (write-edited g pos st snd f off (off + n) hf (omega arith) big new room′)
           (omega (arith, big, snd .fits f hf)) (length-write old off d (omega arith) ∙ rw (length-content g st f, len))
           (λ i h u. write-bytes g pos st snd f off (off + n) hf (omega arith) big new room′ i u
           ∙ at-places off (off + n) i (λ a b. ap new (sym (add-sub-of-le a)) ∙ same (i - off) (omega arith)) (sym (getD-content g st snd f i hf u))
           ∙ sym (getD-write old off d (omega arith) i ∙ rw len))
 
-  pub allocate-content : (off n : ℕ) → 0 < n → off + n ≤ g .S * g .B → EditsArray g st (editAllocate g st f off (off + n)) f (λ xs. arrayAllocate xs off n)
-  unfolding arrayAllocate old
+  pub allocate-content : (off n : ℕ) → 0 < n → off + n ≤ g .S * g .B → EditsArray g st (edited g st (allocating f off (off + n))) f (λ xs. extend xs (off + n))
+  unfolding old
   allocate-content off n l big =
       edited-array g st snd _ f _ (λ xs. extend xs (off + n)) (allocate-edited g pos st snd f off (off + n) hf (omega arith) big)
       (omega (arith, snd .fits f hf)) (length-extend old (off + n) ∙ rw (length-content g st f))
       (λ i h u. allocate-bytes g pos st snd f off (off + n) hf (omega arith) big f i ∙ sym (getD-extend old (off + n) i ∙ getD-content g st snd f i hf u))
 
-  pub deallocate-content : (off n : ℕ) → need (editDeallocate g st f off (min (off + n) (sizeOf st f))) ≤ g .N
-      → EditsArray g st (editDeallocate g st f off (min (off + n) (sizeOf st f))) f (λ xs. arrayDeallocate xs off n)
-  unfolding editDeallocate old
-  deallocate-content off n room = go (decLt off end)
+  pub deallocate-content : (off end : ℕ) → end ≤ sizeOf st f → need (edited g st (deallocating f off end) .words) ≤ g .N
+      → EditsArray g st (edited g st (deallocating f off end)) f (λ xs. arrayZero xs off (end - off))
+  unfolding old
+  deallocate-content off end cut room = go (decLt off end)
     where
-      end : ℕ
-      end = min (off + n) (sizeOf st f)
-
       len : length old ≡ sizeOf st f
       len = length-content g st f
 
-      go : Dec (off < end) → EditsArray g st (editDeallocate g st f off end) f (λ xs. arrayDeallocate xs off n)
-      go (no z) = rw (le-leb end off (omega (arith, z))) (unedited g st f (λ xs. arrayDeallocate xs off n) (deallocate-none old off n (omega (arith, len, z))))
+      go : Dec (off < end) → EditsArray g st (edited g st (deallocating f off end)) f (λ xs. arrayZero xs off (end - off))
+      go (no z) = rw (edited-none g st (deallocating f off end) (omega (arith, z))) (unedited g st f (λ xs. arrayZero xs off (end - off)) (zero-none old off (end - off) (omega (arith, z))))
       go (yes l) =
-          let room′ = rw (deallocate-is g st f off end l) at room in
-          edited-array g st snd _ f _ (λ xs. arrayDeallocate xs off n) (deallocate-edited g pos st snd f off end hf l (omega arith) room′)
-          (snd .fits f hf) (length-deallocate old off n (omega (arith, len)) ∙ len)
-          (λ i h u. deallocate-bytes g pos st snd f off end hf l (omega arith) room′ i u
-          ∙ rw (within-cut off (off + n) (sizeOf st f) i h, ← getD-content g st snd f i hf u)
-          (sym (getD-deallocate old off n (omega (arith, len)) i (omega (arith, len)))))
+          let room′ = rw (deallocate-is g st f off end l cut) at room in
+          let all : off + (end - off) ≡ end = omega arith in
+          edited-array g st snd _ f _ (λ xs. arrayZero xs off (end - off)) (deallocate-edited g pos st snd f off end hf l cut room′)
+          (snd .fits f hf) (length-zero old off (end - off) (omega (arith, len)) ∙ len)
+          (λ i h u. deallocate-bytes g pos st snd f off end hf l cut room′ i u
+          ∙ rw (← getD-content g st snd f i hf u) (sym (getD-zero old off (end - off) (omega (arith, len)) i (omega (arith, len)) ∙ rw all)))
 
   -- n bytes from soff on of a source file s
   module _ (s soff n : ℕ) (hs : s < g .F) (source : soff + n ≤ sizeOf st s) where
@@ -258,13 +252,13 @@ module _ (g : Geometry) (pos : 0 < g .B) (st : Store) (snd : Sound g st) (f : �
     source-byte j h =
         getD-take n (drop soff src) j 0 h ∙ getD-drop soff src j 0 ∙ getD-content g st snd s (soff + j) hs (omega (arith, snd .fits s hs))
 
-    pub copy-content : (off : ℕ) → (0 < n → off + n ≤ g .S * g .B) → need (editCopy g st s f soff off n) ≤ g .N
-        → EditsArray g st (editCopy g st s f soff off n) f (λ xs. arrayCopy (content g st s) xs soff off n)
-    unfolding arrayCopy src
+    pub copy-content : (off : ℕ) → (0 < n → off + n ≤ g .S * g .B) → need (edited g st (copying f off (off + n) s soff) .words) ≤ g .N
+        → EditsArray g st (edited g st (copying f off (off + n) s soff)) f (λ xs. arrayWrite xs off (take n (drop soff (content g st s))))
+    unfolding src
     copy-content off fits room =
-        rw (copy-is-write g st s f soff off n)
+        rw (copy-is-write g st f off (off + n) s soff)
         (write-content off n (take n (drop soff src)) (λ p. byteAt g st s (soff + (p - off))) source-length
-        (λ j h. rw (add-sub-cancel-left off j) (sym (source-byte j h))) fits (rw (copy-is-write g st s f soff off n) at room))
+        (λ j h. rw (add-sub-cancel-left off j) (sym (source-byte j h))) fits (rw (copy-is-write g st f off (off + n) s soff) at room))
 
     module _ (off : ℕ) (se : soff % g .B ≡ 0) (de : off % g .B ≡ 0) (even : (n % g .B ≡ 0) ⊎ (soff + n ≡ sizeOf st s))
         (clear : (s ≢ f) ⊎ ((soff + n ≤ off) ⊎ (off + n ≤ soff))) (fits : 0 < n → off + n ≤ g .S * g .B) where
@@ -282,8 +276,8 @@ module _ (g : Geometry) (pos : 0 < g .B) (st : Store) (snd : Sound g st) (f : �
               whole = omega (arith, div-add-mod' n (g .B))
           go (inr e) = snd .tail s (soff + (i - off)) hs (omega arith) (omega (arith, end))
 
-      pub clone-content : EditsArray g st (editClone g st s f soff off n) f (λ xs. arrayClone (g .B) (content g st s) xs soff off n)
-      unfolding editClone arrayClone arrayCopy old src
+      pub clone-content : EditsArray g st (edited g st (cloning f off (off + n) s soff)) f (λ xs. arrayClone (g .B) (content g st s) xs soff off n)
+      unfolding arrayClone old src
       clone-content = go (decLt 0 n)
         where
           edit : List ℕ → List ℕ
@@ -299,17 +293,17 @@ module _ (g : Geometry) (pos : 0 < g .B) (st : Store) (snd : Sound g st) (f : �
           end : off + n + rest ≡ off + ceilDiv n (g .B) * g .B
           end = omega (arith, ceil-after pos off n de, le-ceil pos n (ceilDiv n (g .B)) (le-refl _))
 
-          go : Dec (0 < n) → EditsArray g st (editClone g st s f soff off n) f edit
-          go (no z) = rw (le-leb (off + n) off (omega (arith, z))) (unedited g st f edit (rw (eq-eqb n 0 (omega (arith, z)))))
+          go : Dec (0 < n) → EditsArray g st (edited g st (cloning f off (off + n) s soff)) f edit
+          go (no z) = rw (edited-none g st (cloning f off (off + n) s soff) (omega (arith, z))) (unedited g st f edit (rw (eq-eqb n 0 (omega (arith, z)))))
           go (yes l) =
               edited-array g st snd _ f _ edit (clone-edited g pos st snd s f soff off n hs hf se de l source (fits l) even clear)
-              (omega (arith, fits l, snd .fits f hf)) (ap length is ∙ length-deallocate ys (off + n) rest (omega (arith, len)) ∙ len)
+              (omega (arith, fits l, snd .fits f hf)) (ap length is ∙ length-zero ys (off + n) rest (omega (arith, len)) ∙ len)
               (λ i h u. clone-bytes g pos st snd s f soff off n hs hf se de l source (fits l) even clear i
               ∙ two-parts off (off + n) (off + ceilDiv n (g .B) * g .B) i _ _ (omega arith) (omega (arith, end)) (source-tail i)
-              ∙ sym (ap (λ zs. getD zs i 0) is ∙ getD-deallocate ys (off + n) rest (omega (arith, len)) i (omega (arith, len))
+              ∙ sym (ap (λ zs. getD zs i 0) is ∙ getD-zero ys (off + n) rest (omega (arith, len)) i (omega (arith, len))
               ∙ rw end (ap (cond (within (off + n) (off + ceilDiv n (g .B) * g .B) i) 0) (copied i u))))
             where
-              is : edit old ≡ arrayDeallocate ys (off + n) rest
+              is : edit old ≡ arrayZero ys (off + n) rest
               is = rw (ne-eqb n 0 (λ (e : n ≡ 0). omega arith))
 
               len : length ys ≡ max (sizeOf st f) (off + n)
@@ -319,8 +313,3 @@ module _ (g : Geometry) (pos : 0 < g .B) (st : Store) (snd : Sound g st) (f : �
               copied i u =
                   getD-write old off (take n (drop soff src)) (omega (arith, source-length)) i
                   ∙ rw source-length (at-places off (off + n) i (λ a b. source-byte (i - off) (omega arith)) (getD-content g st snd f i hf u))
-
--- a count of 0 means to the source's end, on arrays as on files
-pub count-is : (g : Geometry) (st : Store) (s soff n : ℕ) → arrayCount (content g st s) soff n ≡ sourceCount st s soff n
-unfolding arrayCount
-count-is g st s soff n = rw (length-content g st s)

@@ -10,15 +10,13 @@ use native.Mathlib.Omega.{arith}
 use borrow.Author.Tests.{lt-leb}
 use lib.ListN.{length, getD, set, length-set}
 use lib.Seq.{getD-set-same, getD-set-other}
-use Rattle.rules.specs.Geometry.{Geometry}
-use Rattle.rules.specs.Store.{Store, word, sizeOf, wordOf}
-use Rattle.rules.specs.Content.{slotByte, byteAt}
-use Rattle.rules.specs.Sound.{ceilDiv}
-use Rattle.rules.specs.Edit.{each, within}
-use Rattle.rules.specs.Clone.{share, planClone, editClone}
-use Rattle.rules.proofs.PlanLaws.{InPool}
+use Rattle.rules.specs.Lists.{ceilDiv, each}
+use Rattle.rules.specs.Store.{Geometry, Store, word, sizeOf, wordOf, slotByte, byteAt}
+use Rattle.rules.specs.Edit.{within, edited, cloning}
+use Rattle.rules.proofs.Steps.{share, planClone}
+use Rattle.rules.proofs.EditForms.{clone-is}
 use Rattle.rules.proofs.WriteLaws.{inside, outside}
-use Rattle.rules.proofs.PlanLaws.{each-keeps, SameR, each-sameR, share-sameR, inPool-set}
+use Rattle.rules.proofs.PlanLaws.{InPool, each-keeps, SameR, each-sameR, share-sameR, inPool-set}
 use Rattle.rules.proofs.ViewLaws.{Local, plan-before, plan-after}
 use Rattle.rules.proofs.FileLaws.{div-lt, le-ceil, ceil-behind, Sound, Edited, apart}
 use Rattle.rules.proofs.AllocateLaws.{same-block}
@@ -88,9 +86,9 @@ module _ (g : Geometry) (pos : 0 < g .B) (st : Store) (snd : Sound g st) (s f so
   ws′ : List ℕ
   ws′ = planClone g (st .words) s f soff off c
 
-  clone-is : editClone g st s f soff off c ≡ record { sizes = set (st .sizes) f (max (sizeOf st f) (off + c)); words = ws′; mem = st .mem }
-  unfolding editClone ws′
-  clone-is = rw (lt-leb (off + c) off (omega arith))
+  is : edited g st (cloning f off (off + c) s soff) ≡ record { sizes = set (st .sizes) f (max (sizeOf st f) (off + c)); words = ws′; mem = st .mem }
+  unfolding ws′
+  is = clone-is g pos st s f soff off c de some
 
   in-table : f * g .S + b + (0 + n) ≤ length (st .words)
   in-table = omega (arith, b-fits, snd .slots, mul-le-mul-right (g .S) hf)
@@ -197,9 +195,9 @@ module _ (g : Geometry) (pos : 0 < g .B) (st : Store) (snd : Sound g st) (s f so
           ∙ snd .tail s (soff + (i - off)) hs (past-source i (omega arith) u) (omega (arith, a-is, mul-le-mul-right (g .B) a-fits))
       go (no d) = outside-bytes i (inr (omega (arith, d))) ∙ snd .tail f i hf (omega arith) h
 
-  pub clone-edited : Edited g st (editClone g st s f soff off c) f (max (sizeOf st f) (off + c))
+  pub clone-edited : Edited g st (edited g st (cloning f off (off + c) s soff)) f (max (sizeOf st f) (off + c))
   unfolding after
-  clone-edited = rw clone-is record {
+  clone-edited = rw is record {
     files = length-set (st .sizes) f _;
     slots = plan-r .slots;
     bytes = refl;
@@ -212,13 +210,13 @@ module _ (g : Geometry) (pos : 0 < g .B) (st : Store) (snd : Sound g st) (s f so
     tail = plan-tail;
   }
 
-  pub clone-r : SameR (st .words) (editClone g st s f soff off c .words)
-  clone-r = rw clone-is plan-r
+  pub clone-r : SameR (st .words) (edited g st (cloning f off (off + c) s soff) .words)
+  clone-r = rw is plan-r
 
   -- the bytes of the target: the source's, to the end of the last slot, and else as before
-  pub clone-bytes : (i : ℕ) → byteAt g (editClone g st s f soff off c) f i ≡ cond (within off (off + ceilDiv c (g .B) * g .B) i) (byteAt g st s (soff + (i - off))) (byteAt g st f i)
+  pub clone-bytes : (i : ℕ) → byteAt g (edited g st (cloning f off (off + c) s soff)) f i ≡ cond (within off (off + ceilDiv c (g .B) * g .B) i) (byteAt g st s (soff + (i - off))) (byteAt g st f i)
   unfolding after n
-  clone-bytes i = rw clone-is (go (decLe off i) (decLt i (off + ceilDiv c (g .B) * g .B)))
+  clone-bytes i = rw is (go (decLe off i) (decLt i (off + ceilDiv c (g .B) * g .B)))
     where
       go : Dec (off ≤ i) → Dec (i < off + ceilDiv c (g .B) * g .B)
           → byteAt g after f i ≡ cond (within off (off + ceilDiv c (g .B) * g .B) i) (byteAt g st s (soff + (i - off))) (byteAt g st f i)

@@ -10,7 +10,7 @@ use mathlib.Core.Logic.{_⊎_, inl, inr}
 use native.Mathlib.Omega.{arith}
 use lib.ListN.{length, getD, set, drop, drop-of-length-le}
 use lib.Seq.{drop-cons}
-use Rattle.rules.specs.Count.{bit, count, sumTo}
+use Rattle.rules.specs.Lists.{bit, count, sumTo}
 
 -- what storing one element does to a count
 pub count-set : (p : ℕ → Bool) (l : List ℕ) (i x : ℕ) → i < length l

@@ -11,14 +11,12 @@ use borrow.Author.Tests.{lt-leb, leb-true, ltb-true}
 use lib.ListN.{length, getD, set, length-set}
 use lib.Seq.{getD-set-same, getD-set-other}
 use lib.Dec.{leb, ltb}
-use Rattle.rules.specs.Geometry.{Geometry}
-use Rattle.rules.specs.Store.{Store, isHole, sizeOf, wordOf}
-use Rattle.rules.specs.Blocks.{used, owed}
-use Rattle.rules.specs.Content.{slotByte, byteAt}
-use Rattle.rules.specs.Edit.{each, ownUnless, within, firstSlot, slotCount}
-use Rattle.rules.specs.Deallocate.{giveBack, whole, stays, planGiveBack, planDeallocate, zeroBytes, editDeallocate}
-use Rattle.rules.proofs.PlanLaws.{InPool}
-use Rattle.rules.proofs.PlanLaws.{each-keeps, SameR, each-sameR, ownUnless-sameR, plan-pool}
+use Rattle.rules.specs.Lists.{each}
+use Rattle.rules.specs.Store.{Geometry, Store, isHole, sizeOf, wordOf, used, owed, slotByte, byteAt}
+use Rattle.rules.specs.Edit.{within, firstSlot, slotCount, givesBack, edited, deallocating}
+use Rattle.rules.proofs.Steps.{ownUnless, giveBack, skips, planGiveBack, planDeallocate, zeroBytes}
+use Rattle.rules.proofs.EditForms.{deallocate-is}
+use Rattle.rules.proofs.PlanLaws.{InPool, each-keeps, SameR, each-sameR, ownUnless-sameR, plan-pool}
 use Rattle.rules.proofs.ViewLaws.{Local, plan-before, own-local, Wrote, wrote}
 use Rattle.rules.proofs.FileLaws.{div-lt, Sound, Edited, other-words, slots-fit, plan-past, slot-in}
 use Rattle.rules.proofs.WriteLaws.{outside, inside, file-mine, file-other}
@@ -83,14 +81,14 @@ was-given at given (suc n) k ws h q l u e = go (was-given at given n (suc k) (gi
     go ih (yes z) = rw (z, plan-before at (giveBack at given) (giveBack-local at given) n (suc k) (at + k) (giveBack at given ws k) (omega arith)) (giveBack-now at given ws k (omega arith) (rw z at e))
     go ih (no d) = ih q (omega (arith, d)) (omega arith) e
 
--- what `whole` says
+-- what `givesBack` says
 pub record Whole (g : Geometry) (size off end k : ℕ) : Type 0 where
   pub starts : off ≤ k * g .B
   pub some-byte : k * g .B < size
   pub ends : min (k * g .B + g .B) size ≤ end
 
-pub whole-is : (g : Geometry) (size off end k : ℕ) → whole g size off end k ≡ true → Whole g size off end k
-unfolding whole
+pub whole-is : (g : Geometry) (size off end k : ℕ) → givesBack g size off end k ≡ true → Whole g size off end k
+unfolding givesBack
 whole-is g size off end k e =
     let a : Bool = leb off (k * g .B) in
     let b : Bool = ltb (k * g .B) size in
@@ -110,12 +108,6 @@ mix false false x y p q = p refl
 hole-zero : (g : Geometry) (m : List ℕ) (w j : ℕ) → isHole w ≡ true → slotByte g m w j ≡ 0
 hole-zero g m w j e = rw e
 
-pub deallocate-is : (g : Geometry) (st : Store) (f off end : ℕ) → off < end
-    → editDeallocate g st f off end
-    ≡ record { sizes = set (st .sizes) f (sizeOf st f); words = planDeallocate g (st .words) f (sizeOf st f) off end; mem = zeroBytes g st f off end }
-unfolding editDeallocate
-deallocate-is g st f off end some = rw (lt-leb end off some)
-
 module _ (g : Geometry) (pos : 0 < g .B) (st : Store) (snd : Sound g st) (f off end : ℕ) (hf : f < g .F) (some : off < end) (cut : end ≤ sizeOf st f) where
   fits : end ≤ g .S * g .B
   fits = le-trans cut (snd .fits f hf)
@@ -129,47 +121,47 @@ module _ (g : Geometry) (pos : 0 < g .B) (st : Store) (snd : Sound g st) (f off 
   in-table : f * g .S + (firstSlot g off + slotCount g off end) ≤ length (st .words)
   in-table = omega (arith, slots-fit g pos off end some fits, snd .slots, mul-le-mul-right (g .S) hf)
 
-  given : GaveBack (f * g .S) (whole g (sizeOf st f) off end) (st .words) ws₁
+  given : GaveBack (f * g .S) (givesBack g (sizeOf st f) off end) (st .words) ws₁
   unfolding ws₁ planGiveBack
-  given = gave-back (f * g .S) (whole g (sizeOf st f) off end) (slotCount g off end) (firstSlot g off) (st .words) in-table
+  given = gave-back (f * g .S) (givesBack g (sizeOf st f) off end) (slotCount g off end) (firstSlot g off) (st .words) in-table
 
   given-pool : InPool (g .N) ws₁
   given-pool p = go (given .each-slot p)
     where
-      go : Given (f * g .S) (whole g (sizeOf st f) off end) (st .words) ws₁ p → getD ws₁ p 0 / 2 ≤ g .N
+      go : Given (f * g .S) (givesBack g (sizeOf st f) off end) (st .words) ws₁ p → getD ws₁ p 0 / 2 ≤ g .N
       go (kept e) = rw e (snd .pool p)
       go (back q a b c) = rw c (omega arith)
 
   edge-r : SameR ws₁ ws′
   unfolding ws₁ planDeallocate
-  edge-r = each-sameR (ownUnless (stays g (st .words) f (sizeOf st f) off end) (f * g .S)) (ownUnless-sameR (stays g (st .words) f (sizeOf st f) off end) (f * g .S))
+  edge-r = each-sameR (ownUnless (skips g (st .words) f (sizeOf st f) off end) (f * g .S)) (ownUnless-sameR (skips g (st .words) f (sizeOf st f) off end) (f * g .S))
       (slotCount g off end) (firstSlot g off) (planGiveBack g (st .words) f (sizeOf st f) off end)
 
   -- words of other slots
   plan-other : (e k : ℕ) → e ≢ f → k < g .S → wordOf g ws′ e k ≡ wordOf g (st .words) e k
   unfolding planDeallocate planGiveBack
   plan-other e k d hk =
-      other-words g f (ownUnless (stays g (st .words) f (sizeOf st f) off end) (f * g .S)) (own-local (stays g (st .words) f (sizeOf st f) off end) (f * g .S))
+      other-words g f (ownUnless (skips g (st .words) f (sizeOf st f) off end) (f * g .S)) (own-local (skips g (st .words) f (sizeOf st f) off end) (f * g .S))
       (slotCount g off end) (firstSlot g off) (planGiveBack g (st .words) f (sizeOf st f) off end) (slots-fit g pos off end some fits) e k d hk
-      ∙ other-words g f (giveBack (f * g .S) (whole g (sizeOf st f) off end)) (giveBack-local (f * g .S) (whole g (sizeOf st f) off end))
+      ∙ other-words g f (giveBack (f * g .S) (givesBack g (sizeOf st f) off end)) (giveBack-local (f * g .S) (givesBack g (sizeOf st f) off end))
       (slotCount g off end) (firstSlot g off) (st .words) (slots-fit g pos off end some fits) e k d hk
 
   plan-beyond : (k : ℕ) → k < g .S → sizeOf st f ≤ k * g .B → wordOf g ws′ f k ≡ 0
   unfolding planDeallocate planGiveBack
   plan-beyond k hk l =
       let past : end ≤ k * g .B = omega (arith, cut) in
-      plan-past g pos off end some fits f (ownUnless (stays g (st .words) f (sizeOf st f) off end) (f * g .S))
-      (own-local (stays g (st .words) f (sizeOf st f) off end) (f * g .S)) (planGiveBack g (st .words) f (sizeOf st f) off end) k past
-      ∙ plan-past g pos off end some fits f (giveBack (f * g .S) (whole g (sizeOf st f) off end))
-      (giveBack-local (f * g .S) (whole g (sizeOf st f) off end)) (st .words) k past
+      plan-past g pos off end some fits f (ownUnless (skips g (st .words) f (sizeOf st f) off end) (f * g .S))
+      (own-local (skips g (st .words) f (sizeOf st f) off end) (f * g .S)) (planGiveBack g (st .words) f (sizeOf st f) off end) k past
+      ∙ plan-past g pos off end some fits f (giveBack (f * g .S) (givesBack g (sizeOf st f) off end))
+      (giveBack-local (f * g .S) (givesBack g (sizeOf st f) off end)) (st .words) k past
       ∙ snd .beyond f k hf hk l
 
-  -- a reserved slot that is not given back stays reserved
-  pub deallocate-r : (p : ℕ) → getD (st .words) p 0 % 2 ≡ 1 → ((q : ℕ) → p ≡ f * g .S + q → whole g (sizeOf st f) off end q ≡ true → ⊥)
-      → getD (editDeallocate g st f off end .words) p 0 % 2 ≡ 1
-  deallocate-r p e d = rw (deallocate-is g st f off end some) (edge-r .r p ∙ go (given .each-slot p))
+  -- a reserved slot that is not given back skips reserved
+  pub deallocate-r : (p : ℕ) → getD (st .words) p 0 % 2 ≡ 1 → ((q : ℕ) → p ≡ f * g .S + q → givesBack g (sizeOf st f) off end q ≡ true → ⊥)
+      → getD (edited g st (deallocating f off end) .words) p 0 % 2 ≡ 1
+  deallocate-r p e d = rw (deallocate-is g st f off end some cut) (edge-r .r p ∙ go (given .each-slot p))
     where
-      go : Given (f * g .S) (whole g (sizeOf st f) off end) (st .words) ws₁ p → getD ws₁ p 0 % 2 ≡ 1
+      go : Given (f * g .S) (givesBack g (sizeOf st f) off end) (st .words) ws₁ p → getD ws₁ p 0 % 2 ≡ 1
       go (kept k) = rw k e
       go (back q a b c) = absurd (d q a b)
 
@@ -182,13 +174,13 @@ module _ (g : Geometry) (pos : 0 < g .B) (st : Store) (snd : Sound g st) (f off 
   module _ (room : used (planDeallocate g (st .words) f (sizeOf st f) off end) + owed (planDeallocate g (st .words) f (sizeOf st f) off end) ≤ g .N) where
     plan-in : InPool (g .N) ws′
     unfolding ws₁ planDeallocate
-    plan-in = plan-pool (stays g (st .words) f (sizeOf st f) off end) (f * g .S) (g .N) (slotCount g off end) (firstSlot g off) ws₁
+    plan-in = plan-pool (skips g (st .words) f (sizeOf st f) off end) (f * g .S) (g .N) (slotCount g off end) (firstSlot g off) ws₁
         (omega (arith, in-table, given .slots)) given-pool (omega (arith, room))
 
-    edges : Wrote (stays g (st .words) f (sizeOf st f) off end) g (f * g .S) (firstSlot g off) (slotCount g off end) (within off end) (λ i. 0)
+    edges : Wrote (skips g (st .words) f (sizeOf st f) off end) g (f * g .S) (firstSlot g off) (slotCount g off end) (within off end) (λ i. 0)
         ws₁ (st .mem) ws′ (zeroBytes g st f off end)
     unfolding ws₁ planDeallocate zeroBytes
-    edges = wrote (stays g (st .words) f (sizeOf st f) off end) g (f * g .S) (within off end) (λ i. 0) (slotCount g off end) (firstSlot g off) ws₁ (st .mem)
+    edges = wrote (skips g (st .words) f (sizeOf st f) off end) g (f * g .S) (within off end) (λ i. 0) (slotCount g off end) (firstSlot g off) ws₁ (st .mem)
         (omega (arith, in-table, given .slots)) (snd .bytes) given-pool plan-in
 
     between-slots : length (between .words) ≡ g .F * g .S
@@ -209,15 +201,15 @@ module _ (g : Geometry) (pos : 0 < g .B) (st : Store) (snd : Sound g st) (f off 
     byte-hole i e = hole-zero g (st .mem) (wordOf g (st .words) f (i / g .B)) (i % g .B) e
 
     mine : (i : ℕ) → i < g .S * g .B
-        → byteAt g after f i ≡ cond (not (stays g (st .words) f (sizeOf st f) off end (i / g .B)) && within off end i) 0 (byteAt g between f i)
+        → byteAt g after f i ≡ cond (not (skips g (st .words) f (sizeOf st f) off end (i / g .B)) && within off end i) 0 (byteAt g between f i)
     unfolding after between
-    mine i h = file-mine g pos f off end some fits (stays g (st .words) f (sizeOf st f) off end) (λ i. 0) between after between-slots edges hf i h
+    mine i h = file-mine g pos f off end some fits (skips g (st .words) f (sizeOf st f) off end) (λ i. 0) between after between-slots edges hf i h
 
     -- a place outside the region keeps its byte
     outside-same : (i : ℕ) → i < g .S * g .B → within off end i ≡ false → byteAt g between f i ≡ byteAt g st f i
     outside-same i h out = go (given .each-slot (f * g .S + i / g .B))
       where
-        go : Given (f * g .S) (whole g (sizeOf st f) off end) (st .words) ws₁ (f * g .S + i / g .B) → byteAt g between f i ≡ byteAt g st f i
+        go : Given (f * g .S) (givesBack g (sizeOf st f) off end) (st .words) ws₁ (f * g .S + i / g .B) → byteAt g between f i ≡ byteAt g st f i
         go (kept e) = byte-kept i e
         go (back q a b c) = byte-back i c ∙ sym (snd .tail f i hf past h)
           where
@@ -236,10 +228,10 @@ module _ (g : Geometry) (pos : 0 < g .B) (st : Store) (snd : Sound g st) (f off 
                     (omega (arith, w .starts, div-add-mod' i (g .B)))
                     (omega (arith, w .ends, d, div-add-mod' i (g .B), mod-lt i pos))))
 
-    -- a place of the region is zero in a slot that stays
-    stays-zero : (i : ℕ) → off ≤ i → i < end → stays g (st .words) f (sizeOf st f) off end (i / g .B) ≡ true → byteAt g between f i ≡ 0
-    unfolding stays ws₁ planGiveBack
-    stays-zero i l u e = go (whole g (sizeOf st f) off end (i / g .B)) refl
+    -- a place of the region is zero in a slot that skips
+    stays-zero : (i : ℕ) → off ≤ i → i < end → skips g (st .words) f (sizeOf st f) off end (i / g .B) ≡ true → byteAt g between f i ≡ 0
+    unfolding skips ws₁ planGiveBack
+    stays-zero i l u e = go (givesBack g (sizeOf st f) off end (i / g .B)) refl
       where
         q : ℕ
         q = i / g .B
@@ -247,11 +239,11 @@ module _ (g : Geometry) (pos : 0 < g .B) (st : Store) (snd : Sound g st) (f off 
         here : (firstSlot g off ≤ q) × (q < firstSlot g off + slotCount g off end)
         here = slot-in g pos off end some fits q (omega (arith, div-add-mod' i (g .B), mod-lt i pos)) (omega (arith, div-add-mod' i (g .B)))
 
-        go : (t : Bool) → whole g (sizeOf st f) off end q ≡ t → byteAt g between f i ≡ 0
-        go true z = byte-back i (was-given (f * g .S) (whole g (sizeOf st f) off end) (slotCount g off end) (firstSlot g off) (st .words) in-table q (here .0) (here .1) z)
+        go : (t : Bool) → givesBack g (sizeOf st f) off end q ≡ t → byteAt g between f i ≡ 0
+        go true z = byte-back i (was-given (f * g .S) (givesBack g (sizeOf st f) off end) (slotCount g off end) (firstSlot g off) (st .words) in-table q (here .0) (here .1) z)
         go false z = pick (given .each-slot (f * g .S + q))
           where
-            pick : Given (f * g .S) (whole g (sizeOf st f) off end) (st .words) ws₁ (f * g .S + q) → byteAt g between f i ≡ 0
+            pick : Given (f * g .S) (givesBack g (sizeOf st f) off end) (st .words) ws₁ (f * g .S + q) → byteAt g between f i ≡ 0
             pick (kept k) = byte-kept i k ∙ byte-hole i (rw z at e)
             pick (back x a b c) = byte-back i c
 
@@ -259,29 +251,29 @@ module _ (g : Geometry) (pos : 0 < g .B) (st : Store) (snd : Sound g st) (f off 
     bytes-after : (i : ℕ) → i < g .S * g .B → byteAt g after f i ≡ cond (within off end i) 0 (byteAt g st f i)
     bytes-after i h =
         mine i h
-        ∙ mix (stays g (st .words) f (sizeOf st f) off end (i / g .B)) (within off end i) (byteAt g between f i) (byteAt g st f i) (outside-same i h)
+        ∙ mix (skips g (st .words) f (sizeOf st f) off end (i / g .B)) (within off end i) (byteAt g between f i) (byteAt g st f i) (outside-same i h)
         (λ w s. stays-zero i (leb-true off i (and-left (leb off i) (ltb i end) w)) (ltb-true i end (and-right (leb off i) (ltb i end) w)) s)
 
     between-other : (e i : ℕ) → e ≢ f → i < g .S * g .B → byteAt g between e i ≡ byteAt g st e i
     unfolding byteAt between ws₁ planGiveBack
     between-other e i d h =
         ap (λ w. slotByte g (st .mem) w (i % g .B))
-        (other-words g f (giveBack (f * g .S) (whole g (sizeOf st f) off end)) (giveBack-local (f * g .S) (whole g (sizeOf st f) off end))
+        (other-words g f (giveBack (f * g .S) (givesBack g (sizeOf st f) off end)) (giveBack-local (f * g .S) (givesBack g (sizeOf st f) off end))
         (slotCount g off end) (firstSlot g off) (st .words) (slots-fit g pos off end some fits) e (i / g .B) d (div-lt pos i (g .S) h))
 
     other-bytes : (e i : ℕ) → e < g .F → e ≢ f → i < g .S * g .B → byteAt g after e i ≡ byteAt g st e i
     unfolding after between
     other-bytes e i he d h =
-        file-other g pos f off end some fits (stays g (st .words) f (sizeOf st f) off end) (λ i. 0) between after between-slots edges e i he d h
+        file-other g pos f off end some fits (skips g (st .words) f (sizeOf st f) off end) (λ i. 0) between after between-slots edges e i he d h
         ∙ between-other e i d h
 
-    pub deallocate-bytes : (i : ℕ) → i < g .S * g .B → byteAt g (editDeallocate g st f off end) f i ≡ cond (within off end i) 0 (byteAt g st f i)
+    pub deallocate-bytes : (i : ℕ) → i < g .S * g .B → byteAt g (edited g st (deallocating f off end)) f i ≡ cond (within off end i) 0 (byteAt g st f i)
     unfolding after
-    deallocate-bytes i h = rw (deallocate-is g st f off end some) (bytes-after i h)
+    deallocate-bytes i h = rw (deallocate-is g st f off end some cut) (bytes-after i h)
 
-    pub deallocate-edited : Edited g st (editDeallocate g st f off end) f (sizeOf st f)
+    pub deallocate-edited : Edited g st (edited g st (deallocating f off end)) f (sizeOf st f)
     unfolding after
-    deallocate-edited = rw (deallocate-is g st f off end some) record {
+    deallocate-edited = rw (deallocate-is g st f off end some cut) record {
       files = length-set (st .sizes) f _;
       slots = edge-r .slots ∙ given .slots;
       bytes = edges .size;

@@ -7,12 +7,9 @@ use native.Mathlib.Nat.{le-refl, le-of-suc-le-suc, mul-le-mul-right, mul-add-div
 use native.Mathlib.Decide.{ℕ-discrete, decLe}
 use native.Mathlib.Omega.{arith}
 use lib.ListN.{length}
-use Rattle.rules.specs.Geometry.{Geometry}
-use Rattle.rules.specs.Store.{Store, sizeOf, wordOf}
-use Rattle.rules.specs.Blocks.{used, owed}
-use Rattle.rules.specs.Content.{byteAt}
-use Rattle.rules.specs.Sound.{ceilDiv}
-use Rattle.rules.specs.Edit.{each, firstSlot, slotCount}
+use Rattle.rules.specs.Lists.{ceilDiv, each}
+use Rattle.rules.specs.Store.{Geometry, Store, sizeOf, wordOf, used, owed, byteAt}
+use Rattle.rules.specs.Edit.{firstSlot, slotCount}
 use Rattle.rules.proofs.PlanLaws.{InPool}
 use Rattle.rules.proofs.ViewLaws.{Local, plan-before, plan-after}
 

@@ -6,7 +6,7 @@ use mathlib.Core.List.{List, [], _∷_}
 use native.Mathlib.Omega.{arith}
 use borrow.Author.Tests.{ltb-true}
 use lib.Dec.{ltb}
-use Rattle.rules.specs.Calls.{first}
+use Rattle.rules.specs.Lists.{first}
 use Rattle.rules.proofs.BoolLaws.{and-left, and-right}
 
 -- every number is above 0

@@ -4,14 +4,14 @@ use Prim.Native.Char.{code}
 use Prim.Native.String.{String, len, charAt}
 use mathlib.Core.Path.{_≡_, refl}
 use mathlib.Core.List.{List, [], _∷_, map}
-use Rattle.rules.specs.Content.{tab}
+use Rattle.rules.specs.Lists.{tabulate}
 use Rattle.rules.specs.Store.{emptyStore}
 use Rattle.rules.specs.Line.{lineBytes, hexLine, requestOf, frameGeometry, answerRequest, answerLine, answerLines}
 use Rattle.rules.proofs.Script.{rules}
 
 -- a text's ASCII codes
 abbrev codes : String → List ℕ
-codes s = tab (λ i. code (charAt s i)) 0 (len s)
+codes s = tabulate (λ i. code (charAt s i)) 0 (len s)
 
 abbrev linesIn : List String
 linesIn =

@@ -8,8 +8,7 @@ use native.Mathlib.Omega.{arith}
 use borrow.Author.Tests.{ltb-true, leb-true, eqb-true}
 use lib.ListN.{length}
 use lib.Dec.{leb, ltb, eqb}
-use Rattle.rules.specs.Geometry.{Geometry, goodBlockSize, goodGeometry}
-use Rattle.rules.specs.Store.{Store, goodLengths}
+use Rattle.rules.specs.Store.{Geometry, goodBlockSize, goodGeometry, Store, goodLengths}
 use Rattle.rules.proofs.BoolLaws.{and-left, and-right, or-cases}
 
 pub record Good (g : Geometry) : Type 0 where

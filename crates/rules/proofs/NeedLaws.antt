@@ -11,14 +11,13 @@ use borrow.Author.Tests.{lt-ltb, eq-eqb, ne-eqb}
 use lib.ListN.{length, getD, set, length-set}
 use lib.Seq.{getD-set-same, set-set}
 use lib.Dec.{ltb, eqb}
-use Rattle.rules.specs.Count.{bit, count, sumTo, countTo}
-use Rattle.rules.specs.Store.{word, isHole, isReserved}
-use Rattle.rules.specs.Blocks.{isShared, holds, holders, top, used, owes, owed, freeFrom, lowestFree}
+use Rattle.rules.specs.Lists.{bit, count, sumTo, countTo}
+use Rattle.rules.specs.Store.{word, isHole, isReserved, isShared, holds, holders, blockBound, used, owes, owed, freeFrom, lowestFree}
 use Rattle.rules.proofs.CountLaws.{count-set, sumTo-ext, sumTo-add, sumTo-point, sumTo-cut, sumTo-ge}
 
--- ---- blocks from `top` on have no holder
+-- ---- blocks from `blockBound` on have no holder
 
-pub no-holder : (ws : List ℕ) (b : ℕ) → top ws ≤ b → holders b ws ≡ 0
+pub no-holder : (ws : List ℕ) (b : ℕ) → blockBound ws ≤ b → holders b ws ≡ 0
 no-holder [] b h = refl
 no-holder (w ∷ ws) b h =
     let e : eqb (w / 2) (suc b) ≡ false = ne-eqb (w / 2) (suc b) (λ (q : w / 2 ≡ suc b). omega arith) in
@@ -53,21 +52,21 @@ scan ws (suc k) b = go (holders b ws) refl (scan ws k (suc b))
 -- (i) the lowest free block is free, every block below it is held, and so it is at most the number of used blocks
 pub lowestFree-free : (ws : List ℕ) → holders (lowestFree ws) ws ≡ 0
 unfolding lowestFree
-lowestFree-free ws = go (eq-or-lt-of-le (scan ws (top ws) 0 .to))
+lowestFree-free ws = go (eq-or-lt-of-le (scan ws (blockBound ws) 0 .to))
   where
-    go : (freeFrom ws (top ws) 0 ≡ 0 + top ws) ⊎ (freeFrom ws (top ws) 0 < 0 + top ws) → holders (freeFrom ws (top ws) 0) ws ≡ 0
-    go (inl q) = no-holder ws (freeFrom ws (top ws) 0) (omega arith)
-    go (inr l) = scan ws (top ws) 0 .at l
+    go : (freeFrom ws (blockBound ws) 0 ≡ 0 + blockBound ws) ⊎ (freeFrom ws (blockBound ws) 0 < 0 + blockBound ws) → holders (freeFrom ws (blockBound ws) 0) ws ≡ 0
+    go (inl q) = no-holder ws (freeFrom ws (blockBound ws) 0) (omega arith)
+    go (inr l) = scan ws (blockBound ws) 0 .at l
 
 pub lowestFree-least : (ws : List ℕ) (c : ℕ) → c < lowestFree ws → 1 ≤ holders c ws
 unfolding lowestFree
-lowestFree-least ws c h = scan ws (top ws) 0 .below c (omega arith) h
+lowestFree-least ws c h = scan ws (blockBound ws) 0 .below c (omega arith) h
 
 pub lowestFree≤used : (ws : List ℕ) → lowestFree ws ≤ used ws
 unfolding lowestFree used
 lowestFree≤used ws =
-    sumTo-ge (freeFrom ws (top ws) 0) (top ws) (λ b. bit (ltb 0 (holders b ws))) (omega (arith, scan ws (top ws) 0 .to))
-    (λ b h. one-if (lt-ltb 0 (holders b ws) (scan ws (top ws) 0 .below b (omega arith) h)))
+    sumTo-ge (freeFrom ws (blockBound ws) 0) (blockBound ws) (λ b. bit (ltb 0 (holders b ws))) (omega (arith, scan ws (blockBound ws) 0 .to))
+    (λ b h. one-if (lt-ltb 0 (holders b ws) (scan ws (blockBound ws) 0 .below b (omega arith) h)))
   where
     one-if : {t : Bool} → t ≡ true → 1 ≤ bit t
     one-if e = rw e (le-refl 1)
@@ -138,7 +137,7 @@ other-part all ws w b h = rw (ne-eqb (w / 2) (suc b) h, zero-add)
 own-part : (all ws : List ℕ) (w o : ℕ) → w / 2 ≡ suc o → bit (isShared all w && isReserved w) + sharedPart all ws o ≡ sharedPart all (w ∷ ws) o
 own-part all ws w o e = rw (eq-eqb (w / 2) (suc o) e) (rw e (add-shared (ltb 1 (holders o all)) (isReserved w) (reservedHolders o ws)))
 
-owed-split : (n : ℕ) (all ws : List ℕ) → top ws ≤ n → count (owes all) ws ≡ reservedHoles ws + sumTo n (sharedPart all ws)
+owed-split : (n : ℕ) (all ws : List ℕ) → blockBound ws ≤ n → count (owes all) ws ≡ reservedHoles ws + sumTo n (sharedPart all ws)
 owed-split n all [] h = omega (arith, none-in n (λ b. ltb 1 (holders b all)))
 owed-split n all (w ∷ ws) h = go (w / 2) refl (owed-split n all ws (omega arith))
   where
@@ -158,11 +157,11 @@ split-cost zero r = refl
 split-cost (suc zero) r = refl
 split-cost (suc (suc h)) r = rw (lt-ltb 0 (suc (suc h)) (omega arith), lt-ltb 1 (suc (suc h)) (omega arith)) (omega arith)
 
-pub used-to : (n : ℕ) (ws : List ℕ) → top ws ≤ n → used ws ≡ countTo n (λ b. ltb 0 (holders b ws))
+pub used-to : (n : ℕ) (ws : List ℕ) → blockBound ws ≤ n → used ws ≡ countTo n (λ b. ltb 0 (holders b ws))
 unfolding used
-used-to n ws h = sym (sumTo-cut (top ws) n (λ b. bit (ltb 0 (holders b ws))) h (λ b l. rw (no-holder ws b l)))
+used-to n ws h = sym (sumTo-cut (blockBound ws) n (λ b. bit (ltb 0 (holders b ws))) h (λ b l. rw (no-holder ws b l)))
 
-pub need-to : (n : ℕ) (ws : List ℕ) → top ws ≤ n → used ws + owed ws ≡ needTo n ws
+pub need-to : (n : ℕ) (ws : List ℕ) → blockBound ws ≤ n → used ws + owed ws ≡ needTo n ws
 unfolding owed
 need-to n ws h =
     let split : sumTo n (blockCost ws) ≡ countTo n (λ b. ltb 0 (holders b ws)) + sumTo n (sharedPart ws ws)
@@ -171,12 +170,12 @@ need-to n ws h =
 
 -- ---- one word stored
 
-pub top-set : (ws : List ℕ) (i x : ℕ) → top (set ws i x) ≤ max (top ws) (x / 2)
+pub top-set : (ws : List ℕ) (i x : ℕ) → blockBound (set ws i x) ≤ max (blockBound ws) (x / 2)
 top-set [] i x = omega arith
 top-set (w ∷ ws) zero x = omega arith
 top-set (w ∷ ws) (suc i) x = omega (arith, top-set ws i x)
 
-pub le-top : (ws : List ℕ) (i : ℕ) → getD ws i 0 / 2 ≤ top ws
+pub le-top : (ws : List ℕ) (i : ℕ) → getD ws i 0 / 2 ≤ blockBound ws
 le-top [] i = omega arith
 le-top (w ∷ ws) zero = omega arith
 le-top (w ∷ ws) (suc i) = omega (arith, le-top ws i)
@@ -259,13 +258,13 @@ cost-most (suc (suc h)) r = omega arith
 
 module _ (ws : List ℕ) (i b x : ℕ) (inside : i < length ws) (free : holders b ws ≡ 0) (hx : x / 2 ≡ suc b) where
   bound : ℕ
-  bound = max (top ws) (suc b)
+  bound = max (blockBound ws) (suc b)
 
-  bound-old : top ws ≤ bound
+  bound-old : blockBound ws ≤ bound
   unfolding bound
   bound-old = omega arith
 
-  bound-new : top (set ws i x) ≤ bound
+  bound-new : blockBound (set ws i x) ≤ bound
   unfolding bound
   bound-new = omega (arith, top-set ws i x)
 

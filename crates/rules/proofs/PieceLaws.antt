@@ -8,40 +8,10 @@ use native.Mathlib.Decide.{decLt}
 use native.Mathlib.Omega.{arith}
 use borrow.Author.Tests.{ltb-true}
 use lib.Dec.{ltb}
-use Rattle.xdr.specs.Encode.{concatMap}
-use Rattle.rules.specs.Geometry.{Geometry}
-use Rattle.rules.specs.Store.{Store, sizeOf}
-use Rattle.rules.specs.Content.{bytesFrom}
+use Rattle.rules.specs.Store.{Geometry, Store, sizeOf, bytesFrom}
 use Rattle.rules.specs.Read.{Piece, holeAt, join, pieces, granted, readCount, readPieces}
-use Rattle.rules.proofs.ReadLaws.{laid, beq-true, beq-false, same-kind, slot-end, read-plus-laid}
-
--- the first of the pieces starts at i, each later one where the one before ends
-abbrev pub Follow : ℕ → List Piece → Type 0
-Follow i [] = Unit {0}
-Follow i (p ∷ ps) = (p .start ≡ i) × Follow (p .start + p .size) ps
-
--- the first of the pieces, if there is one, is not of kind t
-abbrev pub Unlike : Bool → List Piece → Type 0
-Unlike t [] = Unit {0}
-Unlike t (p ∷ ps) = p .hole ≡ not t
-
--- neighbours differ in kind
-abbrev pub Alternate : List Piece → Type 0
-Alternate [] = Unit {0}
-Alternate (p ∷ ps) = Unlike (p .hole) ps × Alternate ps
-
--- the pieces that READ_PLUS answers for n bytes of file f from place off on
-pub record PiecesRight (g : Geometry) (st : Store) (f off n : ℕ) : Type 0 where
-  -- laid end to end, a hole as so many zeros, they are the bytes that READ answers
-  pub laid : concatMap (laid g st f) (readPieces g st f off n) ≡ bytesFrom g st f off (readCount st f off n)
-  pub starts : Follow off (readPieces g st f off n)
-  pub none-empty : (p : Piece) → List·Memᴰ p (readPieces g st f off n) → 1 ≤ p .size
-  pub alternate : Alternate (readPieces g st f off n)
-  pub inside : (p : Piece) → List·Memᴰ p (readPieces g st f off n) → p .start + p .size ≤ min (off + granted n) (sizeOf st f)
-  -- each place of a hole lies in a slot that is a hole, each place of data in a slot that holds a block
-  pub kinds : (p : Piece) → List·Memᴰ p (readPieces g st f off n) → (i : ℕ) → p .start ≤ i → i < p .start + p .size → holeAt g st f i ≡ p .hole
-
--- ---- the proof
+use Rattle.rules.specs.Claim.{Follow, Alternate, Unlike, PiecesRight}
+use Rattle.rules.proofs.ReadLaws.{beq-true, beq-false, same-kind, slot-end, read-plus-laid}
 
 module _ (g : Geometry) (pos : 0 < g .B) (st : Store) (f end : ℕ) where
   record PieceRight (p : Piece) : Type 0 where

@@ -11,11 +11,10 @@ use borrow.Author.Tests.{ltb-true, ltb-false, lt-ltb, eq-eqb, ne-eqb}
 use lib.ListN.{length, getD, set, length-set}
 use lib.Seq.{getD-set-other, set-getD}
 use lib.Dec.{ltb}
-use Rattle.rules.specs.Count.{bit, countTo}
-use Rattle.rules.specs.Store.{word, isHole}
-use Rattle.rules.specs.Blocks.{isShared, holders, top, used, owed, lowestFree}
-use Rattle.rules.specs.Edit.{each, owned, own, ownUnless}
-use Rattle.rules.specs.Clone.{share}
+use Rattle.rules.specs.Lists.{bit, countTo, each}
+use Rattle.rules.specs.Store.{word, isHole, isShared, holders, blockBound, used, owed, lowestFree}
+use Rattle.rules.specs.Edit.{owned}
+use Rattle.rules.proofs.Steps.{own, ownUnless, share}
 use Rattle.rules.proofs.CountLaws.{sumTo-point}
 use Rattle.rules.proofs.NeedLaws.{holders-other, holders-gained, holders-lost, need-hole, need-shared, lowestFree-free, lowestFree≤used, used-to, top-set}
 
@@ -84,7 +83,7 @@ module _ (ws : List ℕ) (i : ℕ) (inside : i < length ws) where
   used-fresh : (b x : ℕ) → x / 2 ≡ suc b → holders b ws ≡ 0 → holders b (set ws i x) ≡ 1
       → ((c : ℕ) → c ≢ b → ltb 0 (holders c (set ws i x)) ≡ ltb 0 (holders c ws)) → used (set ws i x) ≡ used ws + 1
   used-fresh b x hx free now same =
-      let n : ℕ = max (top ws) (suc b) in
+      let n : ℕ = max (blockBound ws) (suc b) in
       let point : countTo n (λ c. ltb 0 (holders c (set ws i x))) + bit (ltb 0 (holders b ws)) ≡ countTo n (λ c. ltb 0 (holders c ws)) + bit (ltb 0 (holders b (set ws i x)))
       = sumTo-point n b _ _ (omega arith) (λ c d. ap bit (same c d)) in
       omega (arith, used-to n ws (omega arith), used-to n (set ws i x) (omega (arith, top-set ws i x)), rw (free, now) at point)

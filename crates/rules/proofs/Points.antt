@@ -5,7 +5,8 @@ use mathlib.Core.List.{List, [], _∷_, _++_, map}
 use lib.ListN.{replicate}
 use Rattle.xdr.specs.Encode.{u32, u64}
 use Rattle.rules.specs.Operation.{READ, SEEK}
-use Rattle.rules.specs.Claim.{machine, zeroId}
+use Rattle.rules.specs.Run.{zeroId}
+use Rattle.rules.specs.Claim.{machine}
 use Rattle.rules.proofs.Script.{Run, machineTold, on, allocate, write, clone, replied, result, put, wrote, cloned, rules}
 
 abbrev runs : List Run

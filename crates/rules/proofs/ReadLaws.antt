@@ -11,18 +11,17 @@ use borrow.Author.Tests.{ltb-true, ltb-false, le-ltb}
 use lib.ListN.{replicate, replicate-append-replicate}
 use lib.Dec.{ltb}
 use Rattle.xdr.specs.Encode.{concatMap}
-use Rattle.rules.specs.Geometry.{Geometry}
-use Rattle.rules.specs.Store.{Store, isHole, sizeOf, wordOf}
-use Rattle.rules.specs.Content.{byteAt, tab, bytesFrom}
-use Rattle.rules.specs.Read.{Piece, holeAt, join, pieces}
-use Rattle.rules.specs.Seek.{seekFrom}
+use Rattle.rules.specs.Lists.{tabulate}
+use Rattle.rules.specs.Store.{Geometry, Store, isHole, sizeOf, wordOf, byteAt, bytesFrom}
+use Rattle.rules.specs.Read.{Piece, holeAt, join, pieces, seekFrom}
+use Rattle.rules.specs.Claim.{laid}
 use Rattle.rules.proofs.FileLaws.{div-le, div-ge}
 
-pub tab-append : (f : ℕ → ℕ) (a b i : ℕ) → tab f i (a + b) ≡ tab f i a ++ tab f (i + a) b
+pub tab-append : (f : ℕ → ℕ) (a b i : ℕ) → tabulate f i (a + b) ≡ tabulate f i a ++ tabulate f (i + a) b
 tab-append f zero b i = rw (zero-add b, add-zero i)
 tab-append f (suc a) b i = rw (suc-add a b) (ap (λ t. f i ∷ t) (tab-append f a b (suc i) ∙ rw (suc-add i a, add-suc i a)))
 
-pub tab-ext : (f h : ℕ → ℕ) (n i : ℕ) → ((j : ℕ) → i ≤ j → j < i + n → f j ≡ h j) → tab f i n ≡ tab h i n
+pub tab-ext : (f h : ℕ → ℕ) (n i : ℕ) → ((j : ℕ) → i ≤ j → j < i + n → f j ≡ h j) → tabulate f i n ≡ tabulate h i n
 tab-ext f h zero i e = refl
 tab-ext f h (suc n) i e = ap₂ (λ a t. a ∷ t) (e i (omega arith) (omega arith)) (tab-ext f h n (suc i) (λ j l u. e j (omega arith) (omega arith)))
 
@@ -38,7 +37,7 @@ beq-false true false e = refl
 beq-false false true e = refl
 beq-false false false e = absurd (true≢false e)
 
-pub tab-zeros : (n i : ℕ) → tab (λ i. 0) i n ≡ replicate n 0
+pub tab-zeros : (n i : ℕ) → tabulate (λ i. 0) i n ≡ replicate n 0
 tab-zeros zero i = refl
 tab-zeros (suc n) i = ap (λ t. 0 ∷ t) (tab-zeros n (suc i))
 
@@ -80,10 +79,6 @@ module _ {b : ℕ} (pos : 0 < b) where
       go : Dec (end ≤ (i / b + 1) * b) → Reaches b end k (min end ((i / b + 1) * b))
       go (yes u) = inl (omega arith)
       go (no d) = let e : min end ((i / b + 1) * b) ≡ (i / b + 1) * b = omega (arith, d) in rw e (reaches-slot end k i l h)
-
--- a piece's bytes: zeros for a hole
-abbrev pub laid : Geometry → Store → ℕ → Piece → List ℕ
-laid g st f p = cond (p .hole) (replicate (p .size) 0) (bytesFrom g st f (p .start) (p .size))
 
 pub pieces-none : (g : Geometry) (st : Store) (f end k i : ℕ) → end ≤ i → pieces g st f end k i ≡ []
 unfolding pieces
@@ -156,7 +151,7 @@ module _ (g : Geometry) (pos : 0 < g .B) (st : Store) (f : ℕ) where
       go false = tt
 
   nothing : (i end : ℕ) → end ≤ i → bytesFrom g st f i (end - i) ≡ []
-  nothing i end h = ap (tab (byteAt g st f) i) (zero-of h)
+  nothing i end h = ap (tabulate (byteAt g st f) i) (zero-of h)
     where
       zero-of : end ≤ i → end - i ≡ 0
       zero-of h = omega arith
@@ -183,7 +178,7 @@ module _ (g : Geometry) (pos : 0 < g .B) (st : Store) (f : ℕ) where
           let parts : end - i ≡ (next - i) + (end - next) = omega arith in
           laid-join (record { hole = holeAt g st f i; start = i; size = next - i }) (pieces g st f end k next) (rw n (pieces-start end k next))
           ∙ ap₂ (λ a b. a ++ b) (laid-slot i (next - i) (omega arith)) (ih (reaches-next pos end k i l h))
-          ∙ sym (ap (tab (byteAt g st f) i) parts ∙ tab-append (byteAt g st f) (next - i) (end - next) i ∙ rw n)
+          ∙ sym (ap (tabulate (byteAt g st f) i) parts ∙ tab-append (byteAt g st f) (next - i) (end - next) i ∙ rw n)
 
   -- READ_PLUS gives what READ gives: S + 1 slots are enough
   pub read-plus-laid : (off end : ℕ) → end ≤ g .S * g .B → concatMap (laid g st f) (pieces g st f end (suc (g .S)) off) ≡ bytesFrom g st f off (end - off)

@@ -5,24 +5,13 @@ use lib.ListN.{length, take, replicate}
 use Rattle.xdr.specs.Encode.{u32, concatMap, be, u64, bool, opaque}
 use Rattle.xdr.specs.Bytes.{partOf, splice}
 use Rattle.xdr.specs.Decode.{fixedAt, fixed, number, upTo, padded, opaqueAt, opaqueUpTo}
-use Rattle.rules.specs.Geometry.{Geometry, goodBlockSize, goodGeometry}
-use Rattle.rules.specs.Store.{emptyStore, Store, goodLengths}
-use Rattle.rules.specs.Blocks.{used, owed, lowestFree}
-use Rattle.rules.specs.Content.{byteAt}
-use Rattle.rules.specs.Sound.{soundFile, sound}
-use Rattle.rules.specs.Edit.{owned, own, storeSlot, storeAt}
-use Rattle.rules.specs.Write.{planWrite, writeBytes, editWrite}
-use Rattle.rules.specs.Copy.{planCopy, copyBytes, editCopy}
-use Rattle.rules.specs.Clone.{share, planClone, editClone}
-use Rattle.rules.specs.Allocate.{reserve, planAllocate, editAllocate}
-use Rattle.rules.specs.Deallocate.{whole, giveBack, planGiveBack, stays, planDeallocate, zeroBytes, editDeallocate}
-use Rattle.rules.specs.Read.{join, pieces}
-use Rattle.rules.specs.Seek.{seekFrom}
-use Rattle.rules.specs.Calls.{makeRefusal, madeStore, storeRefusal, usedCount, owedCount, slotRefusal, slotView, slotIsHole}
-use Rattle.rules.specs.Operation.{Op, PUTFH, SAVEFH, WRITE, ALLOCATE, CLONE, requestBytes, itemAt, items, header}
-use Rattle.rules.specs.Serve.{Outcome, replyBytes, compound, served, refusal, serve}
-use Rattle.rules.specs.Claim.{Call, machine, zeroId, answer}
-use Rattle.rules.specs.Run.{errors, effect, readReply, readPlusReply, seekReply, body, perform, reached}
+use Rattle.rules.specs.Store.{Geometry, goodBlockSize, goodGeometry, Store, goodLengths, emptyStore, used, owed, lowestFree, byteAt, soundFile, sound}
+use Rattle.rules.specs.Edit.{givesBack, kindOf, owned, become, pass, plan, storeSlot, editBytes, edited}
+use Rattle.rules.specs.Read.{join, pieces, seekFrom}
+use Rattle.rules.specs.Operation.{Op, PUTFH, SAVEFH, WRITE, ALLOCATE, CLONE, itemAt, items, header, requestBytes, readReply, readPlusReply, seekReply}
+use Rattle.rules.specs.Run.{zeroId, errors, does, editOf, effect, body, Event, perform, reached}
+use Rattle.rules.specs.Calls.{compound, replyBytes, Call, Outcome, served, refusal, answer, makeRefusal, madeStore, storeRefusal, usedCount, owedCount, slotRefusal, slotView, slotIsHole}
+use Rattle.rules.specs.Claim.{ranCall, serving, machine, events, history, editDone, extend, arrayWrite, arrayZero, arrayAct, arrayEdit, arrayAfter}
 
 -- a pool of n blocks
 abbrev pub geometry : ℕ → Geometry
@@ -32,7 +21,7 @@ abbrev pub empty : ℕ → Store
 empty n = emptyStore (geometry n)
 
 abbrev pub call : ℕ → List Op → Call
-call n os = record { geometry = geometry n; verifier = replicate 8 0; request = requestBytes [] os; buffer = replicate 32768 0 }
+call n os = record { config = record { geometry = geometry n; verifier = replicate 8 0 }; request = requestBytes [] os; buffer = replicate 32768 0 }
 
 -- ---- operations, with the all-zero stateid
 
@@ -78,7 +67,7 @@ pub record Told : Type 0 where
   pub usedIs : ℕ
   pub owedIs : ℕ
 
-abbrev pub told : Outcome → Told
+abbrev pub told : Outcome Store → Told
 told o = record { reply = take (o .written) (o .reply); usedIs = used (o .store .words); owedIs = owed (o .store .words) }
 
 -- a pool, a list of calls from an empty store, and what is to be told of each
@@ -88,10 +77,10 @@ pub record Run : Type 0 where
   pub answers : List Told
 
 abbrev pub machineTold : Run → List Told
-machineTold r = map told (machine (empty (r .pool)) (map (call (r .pool)) (r .calls)))
+machineTold r = map told (machine serving (empty (r .pool)) (map (call (r .pool)) (r .calls)))
 
 -- ---- computing: `unfolding rules` opens every definition of the rules
 
 unfoldable pub rules : Unit {0}
-unfolding partOf splice be u32 u64 bool opaque fixedAt fixed number upTo padded opaqueAt opaqueUpTo goodBlockSize goodGeometry goodLengths emptyStore used owed lowestFree byteAt soundFile sound owned own storeSlot storeAt planWrite writeBytes editWrite planCopy copyBytes editCopy share planClone editClone reserve planAllocate editAllocate whole giveBack planGiveBack stays planDeallocate zeroBytes editDeallocate join pieces seekFrom makeRefusal madeStore storeRefusal usedCount owedCount slotRefusal slotView slotIsHole itemAt items header requestBytes errors effect readReply readPlusReply seekReply body perform reached replyBytes compound served refusal serve answer machine
+unfolding partOf splice be u32 u64 bool opaque fixedAt fixed number upTo padded opaqueAt opaqueUpTo goodBlockSize goodGeometry goodLengths emptyStore used owed lowestFree byteAt soundFile sound givesBack kindOf owned become pass plan storeSlot editBytes edited join pieces seekFrom itemAt items header requestBytes readReply readPlusReply seekReply errors does editOf effect body perform reached compound replyBytes served refusal answer makeRefusal madeStore storeRefusal usedCount owedCount slotRefusal slotView slotIsHole ranCall machine events history editDone extend arrayWrite arrayZero arrayAct arrayEdit arrayAfter
 rules = tt

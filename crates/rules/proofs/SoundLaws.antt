@@ -9,12 +9,8 @@ use native.Mathlib.Omega.{arith}
 use borrow.Author.Tests.{leb-true, eqb-true, lt-ltb, le-ltb, le-leb, eq-eqb}
 use lib.ListN.{getD, List·getD-eq-default}
 use lib.Dec.{leb, ltb, eqb}
-use Rattle.rules.specs.Count.{allTo}
-use Rattle.rules.specs.Geometry.{Geometry}
-use Rattle.rules.specs.Store.{Store, sizeOf, wordOf, goodLengths}
-use Rattle.rules.specs.Blocks.{used, owed}
-use Rattle.rules.specs.Content.{byteAt}
-use Rattle.rules.specs.Sound.{ceilDiv, soundFile, sound}
+use Rattle.rules.specs.Lists.{allTo, ceilDiv}
+use Rattle.rules.specs.Store.{Geometry, Store, sizeOf, wordOf, goodLengths, used, owed, byteAt, soundFile, sound}
 use Rattle.rules.proofs.GeometryLaws.{Lengths, lengths}
 use Rattle.rules.proofs.FileLaws.{div-lt, ceil-le, le-ceil, Sound}
 use Rattle.rules.proofs.BoolLaws.{and-left, and-right, and-both, or-inl, or-inr, or-second}

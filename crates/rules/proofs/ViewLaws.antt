@@ -12,10 +12,10 @@ use lib.ListN.{length, getD, set, take, drop, replicate, length-set, length-take
 use lib.Seq.{getD-set-same, getD-set-other, getD-take, getD-drop}
 use Rattle.xdr.specs.Bytes.{splice}
 use Rattle.xdr.proofs.BytesLaws.{length-splice, splice-in, splice-below, splice-above}
-use Rattle.rules.specs.Geometry.{Geometry}
-use Rattle.rules.specs.Store.{word, isHole}
-use Rattle.rules.specs.Content.{slotByte, tab}
-use Rattle.rules.specs.Edit.{each, owned, own, ownUnless, slotBytes, overlay, storeSlot, storeAt, storeUnless}
+use Rattle.rules.specs.Lists.{tabulate, each}
+use Rattle.rules.specs.Store.{Geometry, word, isHole, slotByte}
+use Rattle.rules.specs.Edit.{owned, slotBytes, overlay, storeSlot}
+use Rattle.rules.proofs.Steps.{own, ownUnless, storeAt, storeUnless}
 use Rattle.rules.proofs.PlanLaws.{InPool}
 use Rattle.rules.proofs.PlanLaws.{each-ext, OwnedSlot, own-slot, two-holders, ownUnless-sameR}
 
@@ -31,11 +31,11 @@ getD-overlay t new [] p j h = absurd (not-suc-le-zero h)
 getD-overlay t new (x ∷ xs) p zero h = rw (add-zero p)
 getD-overlay t new (x ∷ xs) p (suc j) h = getD-overlay t new xs (suc p) j (le-of-suc-le-suc h) ∙ rw (suc-add p j, add-suc p j)
 
-pub length-tab : (f : ℕ → ℕ) (n p : ℕ) → length (tab f p n) ≡ n
+pub length-tab : (f : ℕ → ℕ) (n p : ℕ) → length (tabulate f p n) ≡ n
 length-tab f zero p = refl
 length-tab f (suc n) p = ap suc (length-tab f n (suc p))
 
-pub getD-tab : (f : ℕ → ℕ) (n p j : ℕ) → j < n → getD (tab f p n) j 0 ≡ f (p + j)
+pub getD-tab : (f : ℕ → ℕ) (n p j : ℕ) → j < n → getD (tabulate f p n) j 0 ≡ f (p + j)
 getD-tab f zero p j h = absurd (not-suc-le-zero h)
 getD-tab f (suc n) p zero h = rw (add-zero p)
 getD-tab f (suc n) p (suc j) h = getD-tab f n (suc p) j (le-of-suc-le-suc h) ∙ rw (suc-add p j, add-suc p j)

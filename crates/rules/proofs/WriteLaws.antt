@@ -9,14 +9,11 @@ use native.Mathlib.Omega.{arith}
 use borrow.Author.Tests.{lt-ltb, le-ltb, le-leb, lt-leb}
 use lib.ListN.{length, set, length-set}
 use lib.Seq.{getD-set-same, getD-set-other}
-use Rattle.rules.specs.Geometry.{Geometry}
-use Rattle.rules.specs.Store.{Store, sizeOf, wordOf}
-use Rattle.rules.specs.Blocks.{used, owed}
-use Rattle.rules.specs.Content.{byteAt}
-use Rattle.rules.specs.Edit.{own, within, firstSlot, slotCount}
-use Rattle.rules.specs.Write.{planWrite, writeBytes, editWrite}
-use Rattle.rules.proofs.PlanLaws.{InPool}
-use Rattle.rules.proofs.PlanLaws.{SameR, each-sameR, own-sameR, plan-pool, own-reserved}
+use Rattle.rules.specs.Store.{Geometry, Store, sizeOf, wordOf, used, owed, byteAt}
+use Rattle.rules.specs.Edit.{within, firstSlot, slotCount, edited, writing}
+use Rattle.rules.proofs.Steps.{own, planWrite, writeBytes}
+use Rattle.rules.proofs.EditForms.{write-is}
+use Rattle.rules.proofs.PlanLaws.{InPool, SameR, each-sameR, own-sameR, plan-pool, own-reserved}
 use Rattle.rules.proofs.ViewLaws.{view, own-local, Wrote, wrote}
 use Rattle.rules.proofs.FileLaws.{div-le, div-ge, div-lt, Sound, Edited, apart, in-file, other-words, slots-fit, plan-past, slot-in}
 use Rattle.rules.proofs.BoolLaws.{and-false}
@@ -95,11 +92,6 @@ module _ (g : Geometry) (pos : 0 < g .B) (f off end : ℕ) (some : off < end) (f
 
 module _ (g : Geometry) (pos : 0 < g .B) (st : Store) (snd : Sound g st) (f off end : ℕ) (hf : f < g .F) (some : off < end) (fits : end ≤ g .S * g .B)
     (new : ℕ → ℕ) where
-  pub write-is : editWrite g st f off end new
-      ≡ record { sizes = set (st .sizes) f (max (sizeOf st f) end); words = planWrite g (st .words) f off end; mem = writeBytes g st f off end new }
-  unfolding editWrite
-  write-is = rw (lt-leb end off some)
-
   in-table : f * g .S + (firstSlot g off + slotCount g off end) ≤ length (st .words)
   in-table = omega (arith, slots-fit g pos off end some fits, snd .slots, mul-le-mul-right (g .S) hf)
 
@@ -128,11 +120,11 @@ module _ (g : Geometry) (pos : 0 < g .B) (st : Store) (snd : Sound g st) (f off 
     write-slots = wrote (λ k. false) g (f * g .S) (within off end) new (slotCount g off end) (firstSlot g off) (st .words) (st .mem) in-table (snd .bytes) (snd .pool) plan-in
 
     -- the bytes of the file after a WRITE
-    pub write-bytes : (i : ℕ) → i < g .S * g .B → byteAt g (editWrite g st f off end new) f i ≡ cond (within off end i) (new i) (byteAt g st f i)
-    write-bytes i h = rw write-is (file-mine g pos f off end some fits (λ k. false) new st _ (snd .slots) write-slots hf i h)
+    pub write-bytes : (i : ℕ) → i < g .S * g .B → byteAt g (edited g st (writing f off end new)) f i ≡ cond (within off end i) (new i) (byteAt g st f i)
+    write-bytes i h = rw (write-is g st f off end new some) (file-mine g pos f off end some fits (λ k. false) new st _ (snd .slots) write-slots hf i h)
 
-    pub write-edited : Edited g st (editWrite g st f off end new) f (max (sizeOf st f) end)
-    write-edited = rw write-is record {
+    pub write-edited : Edited g st (edited g st (writing f off end new)) f (max (sizeOf st f) end)
+    write-edited = rw (write-is g st f off end new some) record {
       files = length-set (st .sizes) f _;
       slots = plan-r .slots;
       bytes = write-slots .size;
@@ -153,5 +145,5 @@ module _ (g : Geometry) (pos : 0 < g .B) (st : Store) (snd : Sound g st) (f off 
   unfolding planWrite
   write-room reserved = le-trans (own-reserved (f * g .S) (slotCount g off end) (firstSlot g off) (st .words) in-table reserved .need) (snd .room)
 
-  pub write-r : SameR (st .words) (editWrite g st f off end new .words)
-  write-r = rw write-is plan-r
+  pub write-r : SameR (st .words) (edited g st (writing f off end new) .words)
+  write-r = rw (write-is g st f off end new some) plan-r

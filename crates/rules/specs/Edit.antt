@@ -1,49 +1,117 @@
--- What the edits have in common (document 01, "The edits"). An edit gives the store that it would leave in a pool without end:
---   its plan is the slot words, from the old words alone; blocks are numbered on from N where the pool has no free one;
---   its bytes are the block memory, from the old words, the planned words and the bytes to store.
--- Whether the pool is large enough is judged afterwards, on the planned words.
-use Prim.Native.Nat.{ℕ, zero, suc, pred, _+_, _-_, _*_, _/_, _%_}
-use mathlib.Core.Bool.{Bool, cond, _&&_, _||_}
+-- The edits (document 01, "The edits").
+-- An edit gives the store that it would leave in a pool without end; whether the pool has room is judged afterwards, on those words.
+use Prim.Native.Nat.{ℕ, suc, pred, _+_, _-_, _*_, _/_, _%_, min, max}
+use mathlib.Core.Bool.{Bool, true, false, cond, _&&_, not}
 use mathlib.Core.List.{List, [], _∷_}
 use lib.ListN.{getD, set, take, drop, replicate}
 use lib.Dec.{leb, ltb}
 use Rattle.xdr.specs.Bytes.{splice}
-use Rattle.rules.specs.Geometry.{Geometry}
-use Rattle.rules.specs.Store.{Store, word, isHole}
-use Rattle.rules.specs.Blocks.{isShared, lowestFree}
-use Rattle.rules.specs.Sound.{ceilDiv}
+use Rattle.rules.specs.Lists.{each, ceilDiv}
+use Rattle.rules.specs.Store.{Geometry, Store, word, isHole, sizeOf, wordOf, holeOrShared, lowestFree, byteAt}
 
--- step at each of the n slots from k on, in rising order
-abbrev pub each {ℓ} : {A : Type ℓ} → (A → ℕ → A) → A → ℕ → ℕ → A
-each step a k zero = a
-each step a k (suc n) = each step (step a k) (suc k) n
+-- what an edit does at the places of its region
+pub data Act : Type 0 where
+  -- the byte that goes to each place
+  write : (ℕ → ℕ) → Act
+  -- from a source: its file, and the offset in it
+  copy clone : ℕ → ℕ → Act
+  allocate deallocate : Act
 
--- ---- a region: the places from off up to end
+-- an edit: its file, its region, from `off` up to `end`, and what it does there
+pub record Edit : Type 0 where
+  pub file : ℕ
+  pub off : ℕ
+  pub end : ℕ
+  pub act : Act
+
+-- an edit of file f, from off up to end; s and soff are a source
+abbrev pub writing : ℕ → ℕ → ℕ → (ℕ → ℕ) → Edit
+writing f off end new = record { file = f; off = off; end = end; act = write new }
+
+abbrev pub copying : ℕ → ℕ → ℕ → ℕ → ℕ → Edit
+copying f off end s soff = record { file = f; off = off; end = end; act = copy s soff }
+
+abbrev pub cloning : ℕ → ℕ → ℕ → ℕ → ℕ → Edit
+cloning f off end s soff = record { file = f; off = off; end = end; act = clone s soff }
+
+abbrev pub allocating : ℕ → ℕ → ℕ → Edit
+allocating f off end = record { file = f; off = off; end = end; act = allocate }
+
+abbrev pub deallocating : ℕ → ℕ → ℕ → Edit
+deallocating f off end = record { file = f; off = off; end = end; act = deallocate }
+
+-- ---- the region
 
 abbrev pub within : ℕ → ℕ → ℕ → Bool
 within off end i = leb off i && ltb i end
 
--- its first slot, and how many slots have a byte in it
+-- *Slot of the region* (document 01's term): one with at least one byte in it. The first of them, and how many they are;
+-- the difference is none where the region is empty.
 abbrev pub firstSlot : Geometry → ℕ → ℕ
 firstSlot g off = off / g .B
 
 abbrev pub slotCount : Geometry → ℕ → ℕ → ℕ
 slotCount g off end = ceilDiv end (g .B) - off / g .B
 
--- ---- plans: each step changes one word. `at` is the index of the file's slot 0
+abbrev pub eachSlot {ℓ} : {A : Type ℓ} → Geometry → Edit → (A → ℕ → A) → A → A
+eachSlot g e step a = each step a (firstSlot g (e .off)) (slotCount g (e .off) (e .end))
 
--- the word of a slot that is to have an unshared block: kept, or the lowest free block where it is a hole or shared
+-- ---- what becomes of a slot of the region
+
+pub data Kind : Type 0 where
+  -- it gets an unshared block and keeps its r
+  owns : Kind
+  -- it is given back: word 0
+  given : Kind
+  -- it takes the block, or the hole, of the slot with that index, and keeps its r
+  shares : ℕ → Kind
+  -- its r is set
+  reserved : Kind
+  stays : Kind
+
+-- A DEALLOCATE *gives back* (document 01's term) slot k: all of the slot's bytes below the size, at least one, lie in the region.
+unfoldable pub givesBack : Geometry → ℕ → ℕ → ℕ → ℕ → Bool
+givesBack g size off end k = leb off (k * g .B) && ltb (k * g .B) size && leb (min (k * g .B + g .B) size) end
+
+-- slot k of the file; CLONE's source slots lie as its target slots do
+unfoldable pub kindOf : Geometry → Store → Edit → ℕ → Kind
+kindOf g st e k = elim (e .act) [
+  | write new ↦ owns
+  | copy s soff ↦ owns
+  | clone s soff ↦ shares (s * g .S + soff / g .B + (k - firstSlot g (e .off)))
+  | allocate ↦ reserved
+  | deallocate ↦ cond (givesBack g (sizeOf st (e .file)) (e .off) (e .end) k) given (cond (isHole (wordOf g (st .words) (e .file) k)) stays owns)
+]
+
+-- ---- the slot words: given-back slots first, then the others, each in rising order
+
+-- the word of a slot that is to have an unshared block: its own, or the lowest free one where it is a hole or shared
 unfoldable pub owned : List ℕ → ℕ → ℕ
-owned ws w = cond (isHole w || isShared ws w) (word (suc (lowestFree ws)) (w % 2)) w
+owned ws w = cond (holeOrShared ws w) (word (suc (lowestFree ws)) (w % 2)) w
 
-unfoldable pub own : ℕ → List ℕ → ℕ → List ℕ
-own at ws k = set ws (at + k) (owned ws (getD ws (at + k) 0))
+-- the words with what becomes of slot i
+unfoldable pub become : Kind → List ℕ → ℕ → List ℕ
+become owns ws i = set ws i (owned ws (getD ws i 0))
+become given ws i = set ws i 0
+become (shares p) ws i = set ws i (word (getD ws p 0 / 2) (getD ws i 0 % 2))
+become reserved ws i = set ws i (word (getD ws i 0 / 2) 1)
+become stays ws i = ws
 
--- a slot that `skip` names stays, any other gets an unshared block
-abbrev pub ownUnless : (ℕ → Bool) → ℕ → List ℕ → ℕ → List ℕ
-ownUnless skip at ws k = cond (skip k) ws (own at ws k)
+abbrev pub isGiven : Kind → Bool
+isGiven owns = false
+isGiven given = true
+isGiven (shares p) = false
+isGiven reserved = false
+isGiven stays = false
 
--- ---- bytes
+-- the slots whose kind passes the test
+unfoldable pub pass : Geometry → Store → Edit → (Kind → Bool) → List ℕ → List ℕ
+pass g st e p ws = eachSlot g e (λ ws k. let c = kindOf g st e k in cond (p c) (become c ws (e .file * g .S + k)) ws) ws
+
+unfoldable pub plan : Geometry → Store → Edit → List ℕ
+plan g st e = pass g st e (λ c. not (isGiven c)) (pass g st e isGiven (st .words))
+
+-- ---- the bytes
 
 -- the B bytes of the slot with word w
 abbrev pub slotBytes : Geometry → List ℕ → ℕ → List ℕ
@@ -58,13 +126,30 @@ overlay region new p (x ∷ xs) = cond (region p) (new p) x ∷ overlay region n
 unfoldable pub storeSlot : Geometry → (ℕ → Bool) → (ℕ → ℕ) → ℕ → ℕ → List ℕ → ℕ → List ℕ
 storeSlot g region new w w′ m k = splice m (pred (w′ / 2) * g .B) (overlay region new (k * g .B) (slotBytes g m w))
 
-unfoldable pub storeAt : Geometry → ℕ → (ℕ → Bool) → (ℕ → ℕ) → List ℕ → List ℕ → List ℕ → ℕ → List ℕ
-storeAt g at region new ws ws′ m k = storeSlot g region new (getD ws (at + k) 0) (getD ws′ (at + k) 0) m k
+-- the byte that the edit puts at place p of its region, in a slot that gets a block of its own
+abbrev pub newByte : Geometry → Store → Edit → ℕ → ℕ
+newByte g st e p = elim (e .act) [
+  | write new ↦ new p
+  | copy s soff ↦ byteAt g st s (soff + (p - e .off))
+  | clone s soff ↦ 0
+  | allocate ↦ 0
+  | deallocate ↦ 0
+]
 
-abbrev pub storeUnless : (ℕ → Bool) → Geometry → ℕ → (ℕ → Bool) → (ℕ → ℕ) → List ℕ → List ℕ → List ℕ → ℕ → List ℕ
-storeUnless skip g at region new ws ws′ m k = cond (skip k) m (storeAt g at region new ws ws′ m k)
+-- only slots with a block of their own are written; a freed block keeps its bytes
+unfoldable pub editBytes : Geometry → Store → Edit → List ℕ
+editBytes g st e = eachSlot g e (λ m k. elim (kindOf g st e k) [
+  | owns ↦ storeSlot g (within (e .off) (e .end)) (newByte g st e) (wordOf g (st .words) (e .file) k) (wordOf g (plan g st e) (e .file) k) m k
+  | given ↦ m
+  | shares p ↦ m
+  | reserved ↦ m
+  | stays ↦ m
+]) (st .mem)
 
--- ---- the store after an edit: file f gets a size, the store its words and bytes; an empty region changes nothing
+-- ---- the store after the edit
 
-abbrev pub edited : Store → ℕ → ℕ → ℕ → ℕ → List ℕ → List ℕ → Store
-edited st f off end size ws m = cond (leb end off) st (record { sizes = set (st .sizes) f size; words = ws; mem = m })
+-- the size is the larger of the old size and the end; DEALLOCATE's region is cut at the size, which so stays. An edit of no bytes changes
+-- nothing.
+unfoldable pub edited : Geometry → Store → Edit → Store
+edited g st e = cond (leb (e .end) (e .off)) st
+    (record { sizes = set (st .sizes) (e .file) (max (sizeOf st (e .file)) (e .end)); words = plan g st e; mem = editBytes g st e })

@@ -1,16 +1,13 @@
 -- The program's lines (document 01, "A day's frames"; refusal 7). A line is a list of ASCII codes, without its newline.
 use Prim.Native.Nat.{ℕ, _+_, _-_, _*_, _/_, _%_}
-use mathlib.Core.Path.{_≡_}
 use mathlib.Core.Bool.{cond, _&&_}
 use mathlib.Core.Option.{Option, none, some}
-use mathlib.Core.List.{List, [], _∷_, _++_}
-use lib.ListN.{length, take, drop, replicate}
+use mathlib.Core.List.{List, [], _∷_}
+use lib.ListN.{length, take, replicate}
 use lib.Dec.{leb, ltb, eqb}
 use Rattle.xdr.specs.Encode.{concatMap}
-use Rattle.rules.specs.Geometry.{Geometry}
-use Rattle.rules.specs.Store.{Store}
-use Rattle.rules.specs.Serve.{Outcome}
-use Rattle.rules.specs.Claim.{Call, answer}
+use Rattle.rules.specs.Store.{Geometry, Store}
+use Rattle.rules.specs.Calls.{Call, Outcome, answer}
 
 -- ---- hexadecimal: either letter case in, lower out
 
@@ -63,21 +60,21 @@ abbrev pub refusalLine : ℕ → List ℕ
 refusalLine k = 45 ∷ (48 + k) ∷ []
 
 -- the line written, and the store after it
-pub record Answered : Type 0 where
+pub record Line : Type 0 where
   pub line : List ℕ
   pub store : Store
 
-abbrev pub answered : Outcome → Answered
-answered o = record { line = cond (eqb (o .number) 0) (hexLine (take (o .written) (o .reply))) (refusalLine (o .number)); store = o .store }
+abbrev pub lineOf : Outcome Store → Line
+lineOf o = record { line = cond (eqb (o .number) 0) (hexLine (take (o .written) (o .reply))) (refusalLine (o .number)); store = o .store }
 
 -- the verifier is zero; the reply buffer has 32,768 bytes
 abbrev pub frameCall : List ℕ → Call
-frameCall s = record { geometry = frameGeometry; verifier = replicate 8 0; request = s; buffer = replicate 32768 0 }
+frameCall s = record { config = record { geometry = frameGeometry; verifier = replicate 8 0 }; request = s; buffer = replicate 32768 0 }
 
-unfoldable pub answerRequest : Store → List ℕ → Answered
-answerRequest st s = answered (answer (frameCall s) st)
+unfoldable pub answerRequest : Store → List ℕ → Line
+answerRequest st s = lineOf (answer (frameCall s) st)
 
-unfoldable pub answerLine : Store → List ℕ → Answered
+unfoldable pub answerLine : Store → List ℕ → Line
 answerLine st l = elim (requestOf l) [ none ↦ record { line = refusalLine 7; store = st } | some s ↦ answerRequest st s ]
 
 -- one line out for each line in

@@ -1,6 +1,6 @@
--- The operations of a COMPOUND and their layouts (document 01, "The compound"; RFC 5661 section 18, RFC 7862 section 15).
+-- The operations of a COMPOUND as bytes, and the bodies of their results (document 01, "The compound"; RFC 5661 section 18, RFC 7862 section 15).
 use Prim.Native.Nat.{ℕ, zero, suc}
-use mathlib.Core.Bool.{Bool, cond, _&&_}
+use mathlib.Core.Bool.{Bool, true, cond, _&&_, not}
 use mathlib.Core.Option.{Option, none, some}
 use mathlib.Core.List.{List, [], _∷_, _++_}
 use lib.ListN.{length}
@@ -8,7 +8,57 @@ use lib.Dec.{leb, eqb}
 use Rattle.xdr.specs.Encode.{u32, concatMap}
 use Rattle.xdr.specs.Decode.{Parsed, got, fault, Reader, ret, _>>=_, number}
 use Rattle.xdr.specs.Layout.{Layout, uint, hyper, upToLimit, boolean, bytes, opaqueData, anyLength, _then_}
-use Rattle.rules.specs.Status.{NOTSUPP, BADXDR, OP-ILLEGAL, SEQUENCE-POS}
+use Rattle.rules.specs.Store.{Geometry, Store, sizeOf, bytesFrom}
+use Rattle.rules.specs.Read.{readCount, atEnd, Piece, readPieces, seekPlace}
+
+-- ---- status numbers
+
+abbrev pub NXIO : ℕ
+NXIO = 6
+
+abbrev pub INVAL : ℕ
+INVAL = 22
+
+abbrev pub FBIG : ℕ
+FBIG = 27
+
+abbrev pub NOSPC : ℕ
+NOSPC = 28
+
+abbrev pub STALE : ℕ
+STALE = 70
+
+abbrev pub BADHANDLE : ℕ
+BADHANDLE = 10001
+
+abbrev pub NOTSUPP : ℕ
+NOTSUPP = 10004
+
+abbrev pub NOFILEHANDLE : ℕ
+NOFILEHANDLE = 10020
+
+abbrev pub MINOR-VERS-MISMATCH : ℕ
+MINOR-VERS-MISMATCH = 10021
+
+abbrev pub BAD-STATEID : ℕ
+BAD-STATEID = 10025
+
+abbrev pub BADXDR : ℕ
+BADXDR = 10036
+
+abbrev pub OP-ILLEGAL : ℕ
+OP-ILLEGAL = 10044
+
+abbrev pub SEQUENCE-POS : ℕ
+SEQUENCE-POS = 10064
+
+abbrev pub TOO-MANY-OPS : ℕ
+TOO-MANY-OPS = 10070
+
+abbrev pub UNION-NOTSUPP : ℕ
+UNION-NOTSUPP = 10090
+
+-- ---- operations
 
 -- an operation with its arguments, in the RFC's order
 pub data Op : Type 0 where
@@ -27,20 +77,6 @@ pub data Op : Type 0 where
   COPY : List ℕ → List ℕ → ℕ → ℕ → ℕ → Bool → Bool → Op
   -- source and target stateid, source and target offset, count
   CLONE : List ℕ → List ℕ → ℕ → ℕ → ℕ → Op
-
-abbrev pub opNumber : Op → ℕ
-opNumber GETFH = 10
-opNumber (PUTFH h) = 22
-opNumber (READ i o n) = 25
-opNumber RESTOREFH = 31
-opNumber SAVEFH = 32
-opNumber (WRITE i o s d) = 38
-opNumber (ALLOCATE i o n) = 59
-opNumber (COPY i j s o n c y) = 60
-opNumber (DEALLOCATE i o n) = 62
-opNumber (READ-PLUS i o n) = 68
-opNumber (SEEK i o n) = 69
-opNumber (CLONE i j s o n) = 71
 
 -- ---- the arguments' layouts
 
@@ -69,33 +105,36 @@ cloneArgs = stateid then stateid then hyper then hyper then hyper
 abbrev pub copyArgs : Layout ((List ℕ × (List ℕ × (ℕ × (ℕ × ℕ)))) × (Bool × (Bool × ℕ)))
 copyArgs = cloneArgs then boolean then boolean then uint
 
--- ---- writing an operation
+-- ---- writing an operation: its number and its arguments' bytes
 
-abbrev pub argBytes : Op → List ℕ
-argBytes GETFH = []
-argBytes (PUTFH h) = handleArgs .write h
-argBytes (READ i o n) = readArgs .write (i, (o, n))
-argBytes RESTOREFH = []
-argBytes SAVEFH = []
-argBytes (WRITE i o s d) = writeArgs .write (i, (o, (s, d)))
-argBytes (ALLOCATE i o n) = regionArgs .write (i, (o, n))
-argBytes (COPY i j s o n c y) = copyArgs .write ((i, (j, (s, (o, n)))), (c, (y, 0)))
-argBytes (DEALLOCATE i o n) = regionArgs .write (i, (o, n))
-argBytes (READ-PLUS i o n) = readArgs .write (i, (o, n))
-argBytes (SEEK i o n) = readArgs .write (i, (o, n))
-argBytes (CLONE i j s o n) = cloneArgs .write (i, (j, (s, (o, n))))
+abbrev pub wire : Op → ℕ × List ℕ
+wire GETFH = (10, [])
+wire (PUTFH h) = (22, handleArgs .write h)
+wire (READ i o n) = (25, readArgs .write (i, (o, n)))
+wire RESTOREFH = (31, [])
+wire SAVEFH = (32, [])
+wire (WRITE i o s d) = (38, writeArgs .write (i, (o, (s, d))))
+wire (ALLOCATE i o n) = (59, regionArgs .write (i, (o, n)))
+wire (COPY i j s o n c y) = (60, copyArgs .write ((i, (j, (s, (o, n)))), (c, (y, 0))))
+wire (DEALLOCATE i o n) = (62, regionArgs .write (i, (o, n)))
+wire (READ-PLUS i o n) = (68, readArgs .write (i, (o, n)))
+wire (SEEK i o n) = (69, readArgs .write (i, (o, n)))
+wire (CLONE i j s o n) = (71, cloneArgs .write (i, (j, (s, (o, n)))))
+
+abbrev pub opNumber : Op → ℕ
+opNumber o = wire o .0
 
 abbrev pub opBytes : Op → List ℕ
-opBytes o = u32 (opNumber o) ++ argBytes o
+opBytes o = u32 (opNumber o) ++ wire o .1
 
 -- ---- reading an operation
 
 -- three and five arguments, in order
 abbrev pub three : (List ℕ → ℕ → ℕ → Op) → List ℕ × (ℕ × ℕ) → Op
-three f a = f (a .0) (a .1 .0) (a .1 .1)
+three f (i, (o, n)) = f i o n
 
 abbrev pub five : (List ℕ → List ℕ → ℕ → ℕ → ℕ → Op) → List ℕ × (List ℕ × (ℕ × (ℕ × ℕ))) → Op
-five f a = f (a .0) (a .1 .0) (a .1 .1 .0) (a .1 .1 .1 .0) (a .1 .1 .1 .1)
+five f (i, (j, (s, (o, n)))) = f i j s o n
 
 -- an operation whose arguments have layout l
 abbrev pub reading : {A : Type 0} → Layout A → (A → Op) → Reader (Option Op)
@@ -109,44 +148,66 @@ readingCopy = do
   a ← copyArgs .read
   ret (cond (eqb (a .1 .1 .1) 0) (some (five (λ i j s o n. COPY i j s o n (a .1 .0) (a .1 .1 .0)) (a .0))) none)
 
--- the arguments of operation n, if it is one that we serve
-abbrev pub argsOf : ℕ → Option (Reader (Option Op))
-argsOf n =
-    cond (eqb n 10) (some (ret (some GETFH)))
-    (cond (eqb n 22) (some (reading handleArgs PUTFH))
-    (cond (eqb n 25) (some (reading readArgs (three READ)))
-    (cond (eqb n 31) (some (ret (some RESTOREFH)))
-    (cond (eqb n 32) (some (ret (some SAVEFH)))
-    (cond (eqb n 38) (some (reading writeArgs (λ a. WRITE (a .0) (a .1 .0) (a .1 .1 .0) (a .1 .1 .1))))
-    (cond (eqb n 59) (some (reading regionArgs (three ALLOCATE)))
-    (cond (eqb n 60) (some readingCopy)
-    (cond (eqb n 62) (some (reading regionArgs (three DEALLOCATE)))
-    (cond (eqb n 68) (some (reading readArgs (three READ-PLUS)))
-    (cond (eqb n 69) (some (reading readArgs (three SEEK)))
-    (cond (eqb n 71) (some (reading cloneArgs (five CLONE))) none)))))))))))
+-- the operations that we serve: number, and how the arguments are read
+abbrev pub readers : List (ℕ × Reader (Option Op))
+readers =
+    (10, ret (some GETFH))
+    ∷ (22, reading handleArgs PUTFH)
+    ∷ (25, reading readArgs (three READ))
+    ∷ (31, ret (some RESTOREFH))
+    ∷ (32, ret (some SAVEFH))
+    ∷ (38, reading writeArgs (λ a. WRITE (a .0) (a .1 .0) (a .1 .1 .0) (a .1 .1 .1)))
+    ∷ (59, reading regionArgs (three ALLOCATE))
+    ∷ (60, readingCopy)
+    ∷ (62, reading regionArgs (three DEALLOCATE))
+    ∷ (68, reading readArgs (three READ-PLUS))
+    ∷ (69, reading readArgs (three SEEK))
+    ∷ (71, reading cloneArgs (five CLONE)) ∷ []
 
--- an operation and the place after it, or the number and status of a result that ends the compound
+-- how the arguments of operation n are read, if it is one of them
+abbrev pub find : ℕ → List (ℕ × Reader (Option Op)) → Option (Reader (Option Op))
+find n [] = none
+find n (r ∷ rs) = cond (eqb n (r .0)) (some (r .1)) (find n rs)
+
+-- What stands at a place of the request: an operation and the place after it; or the number and status of a result that ends the
+-- compound, by the operation's number or arguments alone: BADXDR, NOTSUPP, SEQUENCE_POS or OP_ILLEGAL.
 pub data Item : Type 0 where
   op : Op → ℕ → Item
   bad : ℕ → ℕ → Item
+
+-- *Well-formed* (document 01's term): number and arguments decode without BADXDR.
+abbrev pub wellFormed : Item → Bool
+wellFormed (op o next) = true
+wellFormed (bad k e) = not (eqb e BADXDR)
 
 abbrev pub argsItem : ℕ → Parsed (Option Op) → Item
 argsItem n (fault p) = bad n BADXDR
 argsItem n (got none next) = bad n NOTSUPP
 argsItem n (got (some o) next) = op o next
 
--- a number that we don't serve
+-- the numbers of the RFCs' operations, 3 to 71, SEQUENCE among them; and the number of a result that can't have its own (house where
+-- it is cut off)
+abbrev pub SEQUENCE : ℕ
+SEQUENCE = 53
+
+abbrev pub isOperation : ℕ → Bool
+isOperation n = leb 3 n && leb n 71
+
+abbrev pub ILLEGAL : ℕ
+ILLEGAL = 10044
+
+-- a number that we don't serve; SEQUENCE is refused at any place (house)
 abbrev pub unserved : ℕ → Item
-unserved n = cond (eqb n 53) (bad 53 SEQUENCE-POS) (cond (leb 3 n && leb n 71) (bad n NOTSUPP) (bad 10044 OP-ILLEGAL))
+unserved n = cond (eqb n SEQUENCE) (bad SEQUENCE SEQUENCE-POS) (cond (isOperation n) (bad n NOTSUPP) (bad ILLEGAL OP-ILLEGAL))
 
 abbrev pub numberItem : List ℕ → Parsed ℕ → Item
-numberItem s (fault p) = bad 10044 BADXDR
-numberItem s (got n next) = elim (argsOf n) [ none ↦ unserved n | some r ↦ argsItem n (r s next) ]
+numberItem s (fault p) = bad ILLEGAL BADXDR
+numberItem s (got n next) = elim (find n readers) [ none ↦ unserved n | some r ↦ argsItem n (r s next) ]
 
 unfoldable pub itemAt : List ℕ → ℕ → Item
 itemAt s at = numberItem s (number 4 s at)
 
--- the operations of a list of n, up to the first that does not decode
+-- the items of a list of n operations, up to the first that is no operation
 unfoldable pub items : List ℕ → ℕ → ℕ → List Item
 items s zero at = []
 items s (suc n) at = elim (itemAt s at) [ op o next ↦ op o next ∷ items s n next | bad k e ↦ bad k e ∷ [] ]
@@ -169,3 +230,60 @@ header = do
 -- a request of minor version 2
 unfoldable pub requestBytes : List ℕ → List Op → List ℕ
 requestBytes tag os = headerLayout .write (tag, (2, length os)) ++ concatMap opBytes os
+
+-- ---- the layouts of results
+
+-- eof, data
+abbrev pub readResult : Layout (Bool × List ℕ)
+readResult = boolean then opaqueData anyLength
+
+-- eof, the number of pieces; they follow
+abbrev pub readPlusResult : Layout (Bool × ℕ)
+readPlusResult = boolean then uint
+
+-- content type 0 (data): offset, data; content type 1 (hole): offset, length
+abbrev pub dataPiece : Layout (ℕ × (ℕ × List ℕ))
+dataPiece = uint then hyper then opaqueData anyLength
+
+abbrev pub holePiece : Layout (ℕ × (ℕ × ℕ))
+holePiece = uint then hyper then hyper
+
+-- eof, offset
+abbrev pub seekResult : Layout (Bool × ℕ)
+seekResult = boolean then hyper
+
+-- count, committed, verifier
+abbrev pub writeResult : Layout (ℕ × (ℕ × List ℕ))
+writeResult = uint then uint then bytes 8
+
+-- the number of callback ids, count, committed, verifier, consecutive, synchronous
+abbrev pub copyResult : Layout (ℕ × (ℕ × (ℕ × (List ℕ × (Bool × Bool)))))
+copyResult = uint then hyper then uint then bytes 8 then boolean then boolean
+
+-- ---- the bodies of results
+
+unfoldable pub readReply : Geometry → Store → ℕ → ℕ → ℕ → List ℕ
+readReply g st f off n = readResult .write (atEnd st f off n, bytesFrom g st f off (readCount st f off n))
+
+abbrev pub pieceBytes : Geometry → Store → ℕ → Piece → List ℕ
+pieceBytes g st f p = cond (p .hole) (holePiece .write (1, (p .start, p .size))) (dataPiece .write (0, (p .start, bytesFrom g st f (p .start) (p .size))))
+
+unfoldable pub readPlusReply : Geometry → Store → ℕ → ℕ → ℕ → List ℕ
+readPlusReply g st f off n =
+    let ps = readPieces g st f off n in
+    readPlusResult .write (atEnd st f off n, length ps) ++ concatMap (pieceBytes g st f) ps
+
+-- a hole is asked for by 1, data by 0
+unfoldable pub seekReply : Geometry → Store → ℕ → ℕ → ℕ → List ℕ
+seekReply g st f off what = let p = seekPlace g st f (eqb what 1) off in seekResult .write (eqb p (sizeOf st f), p)
+
+-- FILE_SYNC4
+abbrev pub fileSync : ℕ
+fileSync = 2
+
+-- v is the verifier
+abbrev pub writeReply : ℕ → List ℕ → List ℕ
+writeReply n v = writeResult .write (n, (fileSync, v))
+
+abbrev pub copyReply : ℕ → List ℕ → List ℕ
+copyReply n v = copyResult .write (0, (n, (fileSync, (v, (true, true)))))

@@ -1,18 +1,14 @@
--- READ and READ_PLUS (document 01, "Reading"): what is granted, and the pieces.
+-- READ, READ_PLUS and SEEK (document 01, "Reading").
 use Prim.Native.Nat.{ℕ, zero, suc, _+_, _-_, _*_, _/_, min}
-use mathlib.Core.Bool.{Bool, true, false, cond, Bool·beq}
+use mathlib.Core.Bool.{Bool, true, false, Bool·beq}
 use mathlib.Core.List.{List, [], _∷_}
 use lib.Dec.{leb, ltb}
-use Rattle.xdr.specs.Encode.{opaqueSize}
-use Rattle.xdr.specs.Layout.{Layout, uint, hyper, opaqueData, anyLength, _then_}
-use Rattle.rules.specs.Geometry.{Geometry}
-use Rattle.rules.specs.Store.{Store, isHole, sizeOf, wordOf}
-use Rattle.rules.specs.Content.{bytesFrom}
+use Rattle.rules.specs.Store.{Geometry, Store, isHole, sizeOf, wordOf}
 
 abbrev pub granted : ℕ → ℕ
 granted n = min n 2048
 
--- how many bytes a READ gives
+-- how many bytes a READ gives: what is granted, cut at the size; none past it
 abbrev pub readCount : Store → ℕ → ℕ → ℕ → ℕ
 readCount st f off n = min (granted n) (sizeOf st f - off)
 
@@ -20,8 +16,11 @@ readCount st f off n = min (granted n) (sizeOf st f - off)
 abbrev pub atEnd : Store → ℕ → ℕ → ℕ → Bool
 atEnd st f off n = leb (sizeOf st f) (off + granted n)
 
+-- place i of file f lies in a hole
 abbrev pub holeAt : Geometry → Store → ℕ → ℕ → Bool
 holeAt g st f i = isHole (wordOf g (st .words) f (i / g .B))
+
+-- ---- READ_PLUS
 
 -- a piece of a file: a hole or data, from a place on, so many bytes
 pub record Piece : Type 0 where
@@ -37,7 +36,7 @@ join p (q ∷ qs) = elim (Bool·beq (p .hole) (q .hole)) [
   | false ↦ p ∷ q ∷ qs
 ]
 
--- the pieces of file f from place i up to `end`; k bounds the number of slots
+-- the pieces of file f from place i up to `end`, slot by slot; k bounds the number of slots
 unfoldable pub pieces : Geometry → Store → ℕ → ℕ → ℕ → ℕ → List Piece
 pieces g st f end zero i = []
 pieces g st f end (suc k) i = elim (ltb i end) [
@@ -46,26 +45,20 @@ pieces g st f end (suc k) i = elim (ltb i end) [
   | false ↦ []
 ]
 
--- the pieces of READ_PLUS: clipped to the granted range and the size
+-- clipped to the granted range and the size; at or past the size none (house)
 abbrev pub readPieces : Geometry → Store → ℕ → ℕ → ℕ → List Piece
 readPieces g st f off n = pieces g st f (min (off + granted n) (sizeOf st f)) (suc (g .S)) off
 
--- ---- a piece as it is answered
+-- ---- SEEK
 
--- content type 0 (data): offset, data; content type 1 (hole): offset, length
-abbrev pub dataPiece : Layout (ℕ × (ℕ × List ℕ))
-dataPiece = uint then hyper then opaqueData anyLength
+-- the first place from i on that is a hole (or data), or the size; k bounds the number of slots
+unfoldable pub seekFrom : Geometry → Store → ℕ → Bool → ℕ → ℕ → ℕ
+seekFrom g st f hole zero i = sizeOf st f
+seekFrom g st f hole (suc k) i = elim (ltb i (sizeOf st f)) [
+  | true ↦ elim (Bool·beq hole (holeAt g st f i)) [ true ↦ i | false ↦ seekFrom g st f hole k ((i / g .B + 1) * g .B) ]
+  | false ↦ sizeOf st f
+]
 
-abbrev pub holePiece : Layout (ℕ × (ℕ × ℕ))
-holePiece = uint then hyper then hyper
-
-abbrev pub pieceBytes : Geometry → Store → ℕ → Piece → List ℕ
-pieceBytes g st f p = cond (p .hole) (holePiece .write (1, (p .start, p .size))) (dataPiece .write (0, (p .start, bytesFrom g st f (p .start) (p .size))))
-
--- how many bytes that is
-abbrev pub pieceSize : Piece → ℕ
-pieceSize p = cond (p .hole) (4 + (8 + 8)) (4 + (8 + opaqueSize (p .size)))
-
-abbrev pub piecesSize : List Piece → ℕ
-piecesSize [] = 0
-piecesSize (p ∷ ps) = pieceSize p + piecesSize ps
+-- the place that SEEK answers
+abbrev pub seekPlace : Geometry → Store → ℕ → Bool → ℕ → ℕ
+seekPlace g st f hole off = seekFrom g st f hole (suc (g .S)) off

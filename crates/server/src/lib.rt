@@ -1,8 +1,9 @@
 // The calls for a front end: server.h has their C declarations. Each hands its arguments to the call below it.
 ghost use mathlib.Core.Path.{_≡_};
 ghost use Rattle.store.specs.Lent.{geometryOf};
+ghost use Rattle.rules.specs.Run.{config};
 ghost use Rattle.rules.specs.Calls.{MakePromise, storeRefusal};
-ghost use Rattle.server.specs.Calls.{CountsPromise, ServePromise};
+ghost use Rattle.server.specs.Exports.{CountsPromise, ServePromise};
 use store::Geometry;
 
 fn geometry(files: u64, slots: u64, blocks: u64, block_size: u64) -> Geometry
@@ -103,8 +104,7 @@ pub extern "C" fn compound_serve(
 ) -> u32
     ensures { λ r. ⌜ ServePromise
         (record {
-          geometry = record { F = files; S = slots; N = blocks; B = «block_size» };
-          verifier = now (verifier .entry);
+          config = config (record { F = files; S = slots; N = blocks; B = «block_size» }) (now (verifier .entry));
           request = now (request .entry);
           buffer = now (reply .entry);
         })

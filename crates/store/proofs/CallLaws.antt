@@ -6,13 +6,10 @@ use native.Mathlib.Omega.{arith}
 use lib.ListN.{length, getD, replicate}
 use lib.Dec.{leb, eqb}
 use borrow.Author.Tests.{ne-eqb}
-use Rattle.rules.specs.Geometry.{Geometry, goodGeometry}
-use Rattle.rules.specs.Store.{Store, goodLengths, emptyStore}
+use Rattle.rules.specs.Lists.{allTo}
+use Rattle.rules.specs.Store.{Geometry, goodGeometry, Store, goodLengths, emptyStore, sound, soundFile, used, owed}
 use Rattle.rules.specs.Calls.{makeRefusal, madeStore, MakePromise, storeRefusal, usedCount, owedCount, CountPromise}
 use Rattle.store.specs.Tables.{Shaped}
-use Rattle.rules.specs.Sound.{sound, soundFile}
-use Rattle.rules.specs.Blocks.{used, owed}
-use Rattle.rules.specs.Count.{allTo}
 use Rattle.rules.proofs.GeometryLaws.{lengths}
 
 -- ---- make an empty store

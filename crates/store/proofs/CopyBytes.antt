@@ -10,20 +10,17 @@ use native.Mathlib.Omega.{arith}
 use lib.ListN.{length, getD, set, take, drop, length-set, length-drop}
 use lib.Seq.{length-take-le, take-at, getD-set-same}
 use Rattle.xdr.specs.Bytes.{splice}
-use Rattle.rules.specs.Geometry.{Geometry}
-use Rattle.rules.specs.Store.{Store, wordOf}
-use Rattle.rules.specs.Content.{slotByte, byteAt, tab, bytesFrom}
-use Rattle.rules.specs.Edit.{each, within, firstSlot, slotCount, owned, own, slotBytes, overlay, storeSlot}
-use Rattle.rules.specs.Write.{planWrite}
-use Rattle.rules.specs.Copy.{planCopy, copyBytes}
-use Rattle.store.specs.Tables.{InPool}
-use Rattle.store.specs.ReadCode.{Readable}
-use Rattle.store.specs.Bytes.{Backed, SlotCopy, AllCopies, storeSlots}
+use Rattle.rules.specs.Lists.{tabulate, each}
+use Rattle.rules.specs.Store.{Geometry, Store, wordOf, slotByte, byteAt, bytesFrom}
+use Rattle.rules.specs.Edit.{within, firstSlot, slotCount, owned, slotBytes, overlay, storeSlot}
+use Rattle.rules.proofs.Steps.{own, planWrite, writeBytes}
 use Rattle.rules.proofs.GeometryLaws.{good}
-use Rattle.rules.proofs.PlanLaws.{each-ext, own-slot, two-holders, own-sameR, each-sameR}
+use Rattle.rules.proofs.PlanLaws.{each-ext, own-slot, two-holders, own-sameR, each-sameR, InPool}
 use Rattle.rules.proofs.ViewLaws.{Local, length-overlay, slot-long, shows-other, plan-before, own-local}
 use Rattle.rules.proofs.FileLaws.{div-lt, apart, in-file, other-words, slots-fit}
 use Rattle.rules.proofs.WriteLaws.{outside}
+use Rattle.store.specs.ReadCode.{Readable}
+use Rattle.store.specs.Bytes.{Backed, SlotCopy, AllCopies, storeSlots}
 use Rattle.store.proofs.RangeLaws.{range-outside}
 use Rattle.store.proofs.SettleLaws.{saved-pool}
 use Rattle.store.proofs.EdgeLaws.{plan-held}
@@ -33,11 +30,11 @@ use Rattle.store.proofs.StoreLaws.{share, Storing, storing-start, stori
 -- ---- one slot's share: the places from a up to b, read into the first bytes of the page
 
 -- the source's values, from the place in the source that belongs to a
-tab-from : (v : ℕ → ℕ) (soff off n a : ℕ) → off ≤ a → tab (λ p. v (soff + (p - off))) a n ≡ tab v (soff + (a - off)) n
+tab-from : (v : ℕ → ℕ) (soff off n a : ℕ) → off ≤ a → tabulate (λ p. v (soff + (p - off))) a n ≡ tabulate v (soff + (a - off)) n
 tab-from v soff off zero a h = refl
 tab-from v soff off (suc n) a h =
     let next : soff + (suc a - off) ≡ suc (soff + (a - off)) = omega arith in
-    ap (λ l. v (soff + (a - off)) ∷ l) (tab-from v soff off n (suc a) (omega arith) ∙ ap (λ i. tab v i n) next)
+    ap (λ l. v (soff + (a - off)) ∷ l) (tab-from v soff off n (suc a) (omega arith) ∙ ap (λ i. tabulate v i n) next)
 
 module _ (g : Geometry) (ws m page : List ℕ) (s soff old new k off end a b : ℕ) (h : SlotCopy g ws m s soff old new k off end (length page))
     (ha : a ≡ max off (k * g .B)) (hb : b ≡ min end (k * g .B + g .B)) where
@@ -64,8 +61,8 @@ module _ (g : Geometry) (ws m page : List ℕ) (s soff old new k off end a b : �
         ≡ storeSlot g (within off end) (λ p. byteAt g (record { sizes = sizes; words = ws; mem = m }) s (soff + (p - off))) old new m k
     copy-share sizes e =
         let st : Store = record { sizes = sizes; words = ws; mem = m } in
-        let read : xs ≡ tab (λ p. byteAt g st s (soff + (p - off))) a (b - a)
-        = e ∙ ap (tab (byteAt g st s) (soff + (a - off))) (sym page-lent) ∙ sym (tab-from (byteAt g st s) soff off (b - a) a (omega arith)) in
+        let read : xs ≡ tabulate (λ p. byteAt g st s (soff + (p - off))) a (b - a)
+        = e ∙ ap (tabulate (byteAt g st s) (soff + (a - off))) (sym page-lent) ∙ sym (tab-from (byteAt g st s) soff off (b - a) a (omega arith)) in
         rw (share-back, read) (share g m old new k off end a b (h .touched) ha hb (λ p. byteAt g st s (soff + (p - off))))
 
 -- ---- bytes that agree on the region
@@ -297,23 +294,13 @@ all-copies g ws m s f soff off end room ready pool hf d some fits page = record 
     held j l = rw (← word-cut ws′ at k n j l) (plan-held (λ k. false) at n k ws inside (k + j) (omega arith) (omega arith) refl)
 
 module _ (g : Geometry) (st : Store) (s f soff off n : ℕ) where
-  -- the bytes of a COPY, from the words of its slots alone
-  pub copy-bytes-is : copyBytes g st s f soff off n
-      ≡ storeSlots g (within off (off + n)) (λ p. byteAt g st s (soff + (p - off))) (firstSlot g off)
-      (take (slotCount g off (off + n)) (drop (f * g .S + firstSlot g off) (st .words)))
-      (take (slotCount g off (off + n)) (drop (f * g .S + firstSlot g off) (planCopy g st s f soff off n)))
-      (st .mem) 0 (slotCount g off (off + n))
-  unfolding copyBytes planCopy
-  copy-bytes-is = write-bytes-is g st f off (off + n) (λ p. byteAt g st s (soff + (p - off)))
-
   -- as the code reads the source, by the planned words
   pub copy-stored : 0 < g .B → s ≢ f → 0 < n → off + n ≤ g .S * g .B → soff + n ≤ g .S * g .B → (sizes : List ℕ)
-      → storeSlots g (within off (off + n)) (λ p. byteAt g (record { sizes = sizes; words = planCopy g st s f soff off n; mem = st .mem }) s (soff + (p - off))) (firstSlot g off)
+      → storeSlots g (within off (off + n)) (λ p. byteAt g (record { sizes = sizes; words = planWrite g (st .words) f off (off + n); mem = st .mem }) s (soff + (p - off))) (firstSlot g off)
       (take (slotCount g off (off + n)) (drop (f * g .S + firstSlot g off) (st .words)))
-      (take (slotCount g off (off + n)) (drop (f * g .S + firstSlot g off) (planCopy g st s f soff off n)))
+      (take (slotCount g off (off + n)) (drop (f * g .S + firstSlot g off) (planWrite g (st .words) f off (off + n))))
       (st .mem) 0 (slotCount g off (off + n))
-      ≡ copyBytes g st s f soff off n
-  unfolding planCopy
+      ≡ writeBytes g st f off (off + n) (λ p. byteAt g st s (soff + (p - off)))
   copy-stored pos d some fits room sizes =
       slots-same off (off + n) _ (λ p. byteAt g st s (soff + (p - off))) (λ p l u. source-bytes g pos (st .words) s f off (off + n) d (omega arith) fits (st .mem) sizes (st .sizes) (soff + (p - off)) (omega arith))
-      g (firstSlot g off) _ _ (st .mem) 0 _ ∙ sym copy-bytes-is
+      g (firstSlot g off) _ _ (st .mem) 0 _ ∙ sym (write-bytes-is g st f off (off + n) (λ p. byteAt g st s (soff + (p - off))))

@@ -9,55 +9,60 @@ use borrow.Author.Tests.{le-leb, not-true, not-false}
 use lib.ListN.{length}
 use lib.Seq.{set-getD}
 use lib.Dec.{leb}
-use Rattle.rules.specs.Geometry.{Geometry}
-use Rattle.rules.specs.Store.{Store, sizeOf}
-use Rattle.rules.specs.Blocks.{need}
-use Rattle.store.specs.Tables.{InPool}
-use Rattle.store.specs.Own.{staysBy, DeallocatePlanned}
-use Rattle.rules.specs.Edit.{each, ownUnless}
-use Rattle.rules.specs.Deallocate.{whole, giveBack, planDeallocate, zeroBytes, editDeallocate}
-use Rattle.store.specs.Bytes.{AllEdges, zeroSlots}
-use Rattle.store.specs.Edits.{EditPromise, RegionKnown, SlotsKnown, CutKnown}
+use Rattle.rules.specs.Lists.{each}
+use Rattle.rules.specs.Store.{Geometry, Store, sizeOf, need, fitsPool}
+use Rattle.rules.specs.Edit.{givesBack, edited, deallocating}
+use Rattle.rules.proofs.Steps.{ownUnless, giveBack, planDeallocate, zeroBytes}
 use Rattle.rules.proofs.FileLaws.{Sound}
-use Rattle.rules.proofs.DeallocateLaws.{deallocate-is}
+use Rattle.rules.proofs.EditForms.{deallocate-is}
+use Rattle.store.specs.Own.{skipsBy, DeallocatePlanned}
+use Rattle.store.specs.Bytes.{AllEdges, zeroSlots}
+use Rattle.store.specs.Edits.{EditPromise, SlotsKnown, CutKnown, CutRegion, CutSlots}
 use Rattle.store.proofs.SettleLaws.{saved-pool, plan-deallocate-is}
 use Rattle.store.proofs.EdgeLaws.{edges-touched, zero-bytes-is, edge-held}
 use Rattle.store.proofs.WriteEdit.{edit-refused, edit-done, sound-store, slotAt, lent, slots-inside, lent-count, part-long}
+use Rattle.rules.proofs.PlanLaws.{InPool}
 
 -- ---- the region, cut at the size
 
 module _ {g : Geometry} {st : Store} {cs : List ℕ} {f off end : ℕ} (k : CutKnown g st cs f end) where
-  pub cut-empty : end ≤ off → EditPromise g st (editDeallocate g st f off end) true st cs
-  unfolding editDeallocate
-  cut-empty h = rw (le-leb end off h) (edit-done g st st st cs (le-leb (need st) (g .N) (sound-store (k .known) .room)) refl refl refl (k .known .counted))
+  pub cut-empty : end ≤ off → EditPromise g st (edited g st (deallocating f off end)) true st cs
+  unfolding edited
+  cut-empty h = rw (le-leb end off h) (edit-done g st st st cs (le-leb (need (st .words)) (g .N) (sound-store (k .known) .room)) refl refl refl (k .known .counted))
 
-  pub cut-region : off < end → RegionKnown g st cs f off end
-  cut-region h = record { known = k .known; some = h; fits = le-trans (k .cut) (sound-store (k .known) .fits f (k .known .file)) }
+  pub cut-region : off < end → CutRegion g st cs f off end
+  cut-region h = record {
+    region = record { known = k .known; some = h; fits = le-trans (k .cut) (sound-store (k .known) .fits f (k .known .file)) };
+    cut = k .cut;
+  }
 
 -- ---- after the plan
 
-module _ {g : Geometry} {st : Store} {cs : List ℕ} {f off end first n : ℕ} (k : SlotsKnown g st cs f off end first n)
+module _ {g : Geometry} {st : Store} {cs : List ℕ} {f off end first n : ℕ} (w : CutSlots g st cs f off end first n)
     {done : Bool} {after cs′ old : List ℕ} (same : length cs′ ≡ length cs)
     (p : DeallocatePlanned g (st .words) (f * g .S) first n (sizeOf st f) off end done after cs′ old) where
+  k : SlotsKnown g st cs f off end first n
+  k = w .slots
+
   snd : Sound g st
   snd = sound-store (k .region .known)
 
   plan-is : planDeallocate g (st .words) f (sizeOf st f) off end
-      ≡ each (ownUnless (staysBy g (sizeOf st f) off end first old) (f * g .S))
-      (each (giveBack (f * g .S) (whole g (sizeOf st f) off end)) (st .words) first n) first n
+      ≡ each (ownUnless (skipsBy g (sizeOf st f) off end first old) (f * g .S))
+      (each (giveBack (f * g .S) (givesBack g (sizeOf st f) off end)) (st .words) first n) first n
   plan-is = rw (k .count-is, k .first-is) (plan-deallocate-is g (st .words) f (sizeOf st f) off end old (rw (← k .count-is, ← k .first-is) (p .saved)))
 
-  edit-is : editDeallocate g st f off end
+  edit-is : edited g st (deallocating f off end)
       ≡ record { sizes = st .sizes; words = planDeallocate g (st .words) f (sizeOf st f) off end; mem = zeroBytes g st f off end }
-  edit-is = deallocate-is g st f off end (k .region .some) ∙ rw (set-getD (st .sizes) f 0)
+  edit-is = deallocate-is g st f off end (k .region .some) (w .cut) ∙ rw (set-getD (st .sizes) f 0)
 
-  judged-is : leb (need (editDeallocate g st f off end)) (g .N) ≡ done
+  judged-is : fitsPool (g .N) (edited g st (deallocating f off end) .words) ≡ done
   judged-is = rw (edit-is, plan-is) (sym (rw (same, k .region .known .blocks) at (p .planned .answer)))
 
-  pub cut-refused : not done ≡ true → EditPromise g st (editDeallocate g st f off end) false (record { sizes = st .sizes; words = after; mem = st .mem }) cs′
+  pub cut-refused : not done ≡ true → EditPromise g st (edited g st (deallocating f off end)) false (record { sizes = st .sizes; words = after; mem = st .mem }) cs′
   cut-refused e =
       let no : done ≡ false = not-true done e in
-      edit-refused g st (editDeallocate g st f off end) _ cs′ (judged-is ∙ no) refl (rw (← p .planned .answer, no) at (p .planned .words-are)) refl (p .planned .counted)
+      edit-refused g st (edited g st (deallocating f off end)) _ cs′ (judged-is ∙ no) refl (rw (← p .planned .answer, no) at (p .planned .words-are)) refl (p .planned .counted)
 
   module _ (e : not done ≡ false) (words-same : length after ≡ length (st .words)) where
     -- the words after the plan
@@ -83,9 +88,9 @@ module _ {g : Geometry} {st : Store} {cs : List ℕ} {f off end first n : ℕ} (
         (edge-held g st f off end (omega (arith, slots-inside k, k .first-is, k .count-is)) j h (rw (p .saved, k .count-is, k .first-is) at d))))
 
     pub cut-done : {mem′ : List ℕ} → mem′ ≡ zeroSlots g (sizeOf st f) off end first old (lent after (slotAt g f first) n) (st .mem) 0 (length old)
-        → EditPromise g st (editDeallocate g st f off end) true (record { sizes = st .sizes; words = after; mem = mem′ }) cs′
+        → EditPromise g st (edited g st (deallocating f off end)) true (record { sizes = st .sizes; words = after; mem = mem′ }) cs′
     cut-done {mem′} m =
-        edit-done g st (editDeallocate g st f off end) _ cs′ (judged-is ∙ not-false done e)
+        edit-done g st (edited g st (deallocating f off end)) _ cs′ (judged-is ∙ not-false done e)
         (rw edit-is) (rw edit-is after-is) (rw edit-is (m ∙ bytes-are)) (p .planned .counted)
       where
         bytes-are : zeroSlots g (sizeOf st f) off end first old (lent after (slotAt g f first) n) (st .mem) 0 (length old) ≡ zeroBytes g st f off end

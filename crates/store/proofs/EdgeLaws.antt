@@ -8,17 +8,16 @@ use native.Mathlib.Decide.{ℕ-discrete}
 use native.Mathlib.Omega.{arith}
 use lib.ListN.{length, getD, take, drop}
 use lib.Seq.{getD-set-same}
-use Rattle.rules.specs.Geometry.{Geometry, goodGeometry}
-use Rattle.rules.specs.Store.{Store, isHole, sizeOf}
-use Rattle.rules.specs.Edit.{each, within, firstSlot, slotCount, owned, own, ownUnless, storeSlot, storeAt, storeUnless}
-use Rattle.rules.specs.Deallocate.{whole, giveBack, planGiveBack, stays, planDeallocate, zeroBytes}
-use Rattle.store.specs.Tables.{InPool}
-use Rattle.store.specs.Bytes.{zeroEdge, Edge, AllEdges, zeroSlots}
+use Rattle.rules.specs.Lists.{each}
+use Rattle.rules.specs.Store.{Geometry, goodGeometry, Store, isHole, sizeOf}
+use Rattle.rules.specs.Edit.{within, firstSlot, slotCount, owned, storeSlot, givesBack}
+use Rattle.rules.proofs.Steps.{own, ownUnless, storeAt, storeUnless, giveBack, planGiveBack, skips, planDeallocate, zeroBytes}
 use Rattle.rules.proofs.GeometryLaws.{good, block-pos}
-use Rattle.rules.proofs.PlanLaws.{each-keeps, own-slot, ownUnless-sameR}
+use Rattle.rules.proofs.PlanLaws.{each-keeps, own-slot, ownUnless-sameR, InPool}
 use Rattle.rules.proofs.ViewLaws.{plan-before, own-local}
 use Rattle.rules.proofs.FileLaws.{slots-fit}
 use Rattle.rules.proofs.DeallocateLaws.{giveBack-local, gave-back}
+use Rattle.store.specs.Bytes.{zeroEdge, Edge, AllEdges, zeroSlots}
 use Rattle.store.proofs.StoreLaws.{slot-touched, each-from, word-cut}
 
 -- ---- the code
@@ -30,7 +29,7 @@ edge-number {g} {len} {old} {new} {k} {size} {off} {end} h = omega (arith, h .sl
 -- the slots of a region, with words that name blocks of the pool: one that stores a byte has a block
 pub edges-touched : (g : Geometry) (len : ℕ) (olds news : List ℕ) (size off end : ℕ) → goodGeometry g ≡ true → g .N * g .B ≤ len → off < end → end ≤ g .S * g .B
     → length olds ≡ slotCount g off end → length news ≡ length olds → InPool (g .N) olds → InPool (g .N) news
-    → ((j : ℕ) → j < slotCount g off end → whole g size off end (firstSlot g off + j) || isHole (getD olds j 0) ≡ false → 1 ≤ getD news j 0 / 2)
+    → ((j : ℕ) → j < slotCount g off end → givesBack g size off end (firstSlot g off + j) || isHole (getD olds j 0) ≡ false → 1 ≤ getD news j 0 / 2)
     → AllEdges g len olds news (firstSlot g off) size off end
 edges-touched g len olds news size off end geo room some fits count same op np held = record {
   same = same;
@@ -71,10 +70,10 @@ plan-held skip at (suc n) k ws h q l u e = go (plan-held skip at n (suc k) (ownU
 module _ (g : Geometry) (st : Store) (f off end : ℕ) where
   -- the rules' step reads the words after the give-back pass: where it stores a byte, these are the words before the edit
   edge-step : (ws′ x : List ℕ) (q : ℕ)
-      → storeUnless (stays g (st .words) f (sizeOf st f) off end) g (f * g .S) (within off end) (λ i. 0) (planGiveBack g (st .words) f (sizeOf st f) off end) ws′ x q
+      → storeUnless (skips g (st .words) f (sizeOf st f) off end) g (f * g .S) (within off end) (λ i. 0) (planGiveBack g (st .words) f (sizeOf st f) off end) ws′ x q
       ≡ zeroEdge g (sizeOf st f) off end (getD (st .words) (f * g .S + q) 0) (getD ws′ (f * g .S + q) 0) x q
-  unfolding stays storeAt zeroEdge planGiveBack
-  edge-step ws′ x q = go (whole g (sizeOf st f) off end q) refl
+  unfolding skips storeAt zeroEdge planGiveBack
+  edge-step ws′ x q = go (givesBack g (sizeOf st f) off end q) refl
     where
       w : ℕ
       w = getD (st .words) (f * g .S + q) 0
@@ -82,11 +81,11 @@ module _ (g : Geometry) (st : Store) (f off end : ℕ) where
       stored : ℕ → List ℕ
       stored v = storeSlot g (within off end) (λ i. 0) v (getD ws′ (f * g .S + q) 0) x q
 
-      go : (t : Bool) → whole g (sizeOf st f) off end q ≡ t
-          → cond (t || isHole w) x (stored (getD (each (giveBack (f * g .S) (whole g (sizeOf st f) off end)) (st .words) (firstSlot g off) (slotCount g off end)) (f * g .S + q) 0))
+      go : (t : Bool) → givesBack g (sizeOf st f) off end q ≡ t
+          → cond (t || isHole w) x (stored (getD (each (giveBack (f * g .S) (givesBack g (sizeOf st f) off end)) (st .words) (firstSlot g off) (slotCount g off end)) (f * g .S + q) 0))
           ≡ cond (t || isHole w) x (stored w)
       go true e = refl
-      go false e = rw (not-given (f * g .S) (whole g (sizeOf st f) off end) (slotCount g off end) (firstSlot g off) (st .words) q e)
+      go false e = rw (not-given (f * g .S) (givesBack g (sizeOf st f) off end) (slotCount g off end) (firstSlot g off) (st .words) q e)
 
   -- the bytes of a DEALLOCATE, from the words of its slots alone
   pub zero-bytes-is : zeroBytes g st f off end
@@ -97,7 +96,7 @@ module _ (g : Geometry) (st : Store) (f off end : ℕ) where
   unfolding zeroBytes zeroSlots
   zero-bytes-is =
       rw (add-zero k) at (each-from
-      (storeUnless (stays g ws f size off end) g at (within off end) (λ i. 0) (planGiveBack g ws f size off end) ws′)
+      (storeUnless (skips g ws f size off end) g at (within off end) (λ i. 0) (planGiveBack g ws f size off end) ws′)
       (λ x j. zeroEdge g size off end (getD (cut ws) j 0) (getD (cut ws′) j 0) x (k + j))
       k n 0 (st .mem) (λ x j l. edge-step ws′ x (k + j) ∙ rw (word-cut ws at k n j (omega arith), word-cut ws′ at k n j (omega arith))))
     where
@@ -125,15 +124,15 @@ module _ (g : Geometry) (st : Store) (f off end : ℕ) where
   -- a slot that stores a byte has a block in the plan
   pub edge-held : f * g .S + (firstSlot g off + slotCount g off end) ≤ length (st .words)
       → (j : ℕ) → j < slotCount g off end
-      → whole g (sizeOf st f) off end (firstSlot g off + j) || isHole (getD (take (slotCount g off end) (drop (f * g .S + firstSlot g off) (st .words))) j 0) ≡ false
+      → givesBack g (sizeOf st f) off end (firstSlot g off + j) || isHole (getD (take (slotCount g off end) (drop (f * g .S + firstSlot g off) (st .words))) j 0) ≡ false
       → 1 ≤ getD (take (slotCount g off end) (drop (f * g .S + firstSlot g off) (planDeallocate g (st .words) f (sizeOf st f) off end))) j 0 / 2
-  unfolding planDeallocate planGiveBack stays
+  unfolding planDeallocate planGiveBack skips
   edge-held inside j h e =
       let at = f * g .S in
       let k = firstSlot g off in
       let n = slotCount g off end in
       let size = sizeOf st f in
       let ws = st .words in
-      let long = gave-back at (whole g size off end) n k ws inside .slots in
+      let long = gave-back at (givesBack g size off end) n k ws inside .slots in
       rw (← word-cut (planDeallocate g ws f size off end) at k n j h)
-      (plan-held (stays g ws f size off end) at n k (planGiveBack g ws f size off end) (omega (arith, long)) (k + j) (omega arith) (omega arith) (rw (← word-cut ws at k n j h) at e))
+      (plan-held (skips g ws f size off end) at n k (planGiveBack g ws f size off end) (omega (arith, long)) (k + j) (omega arith) (omega arith) (rw (← word-cut ws at k n j h) at e))

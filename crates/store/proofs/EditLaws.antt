@@ -5,12 +5,10 @@ use mathlib.Core.Bool.{true}
 use mathlib.Core.List.{List}
 use native.Mathlib.Omega.{arith}
 use lib.ListN.{length}
-use Rattle.rules.specs.Geometry.{Geometry}
-use Rattle.rules.specs.Store.{Store}
+use Rattle.rules.specs.Store.{Geometry, Store, sound}
 use Rattle.store.specs.Survey.{Surveyed}
 use Rattle.store.specs.Plan.{Counted}
 use Rattle.store.specs.Tables.{Shaped, Tallied}
-use Rattle.rules.specs.Sound.{sound}
 use Rattle.store.specs.Edits.{EditKnown}
 use Rattle.rules.proofs.GeometryLaws.{good, block-pos, slots-all, lengths}
 use Rattle.rules.proofs.SoundLaws.{sound-facts}

@@ -11,11 +11,8 @@ use borrow.Author.Tests.{lt-ltb, le-ltb, le-leb, lt-leb, eq-eqb, ne-eqb, not-tru
 use lib.ListN.{length, getD, take, drop, length-drop}
 use lib.Seq.{length-take-le, getD-take, getD-drop}
 use lib.Dec.{ltb, eqb}
-use Rattle.rules.specs.Count.{allTo}
-use Rattle.rules.specs.Geometry.{Geometry}
-use Rattle.rules.specs.Store.{Store, sizeOf, wordOf}
-use Rattle.rules.specs.Content.{slotByte, byteAt}
-use Rattle.rules.specs.Sound.{ceilDiv, soundFile}
+use Rattle.rules.specs.Lists.{allTo, ceilDiv}
+use Rattle.rules.specs.Store.{Geometry, Store, sizeOf, wordOf, slotByte, byteAt, soundFile}
 use Rattle.store.specs.Tables.{FileKnown}
 use Rattle.rules.proofs.GeometryLaws.{Good, good, block-pos, file-most, lengths}
 use Rattle.rules.proofs.BoolLaws.{and-both, and-false, or-inl}

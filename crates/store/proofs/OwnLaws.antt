@@ -10,19 +10,16 @@ use borrow.Author.Tests.{eq-eqb, ne-eqb, lt-leb}
 use lib.ListN.{length, getD, set, take, drop, drop-of-length-le}
 use lib.Seq.{set-getD, drop-cons, sets, sets-eq}
 use Rattle.xdr.specs.Bytes.{splice}
-use Rattle.rules.specs.Geometry.{Geometry}
-use Rattle.rules.specs.Count.{bit, sumTo}
-use Rattle.rules.specs.Store.{word}
-use Rattle.rules.specs.Blocks.{holds, holders, top, used, owed, lowestFree}
-use Rattle.store.specs.Tables.{InPool}
-use Rattle.store.specs.Tally.{takesBy, firstZero}
-use Rattle.store.specs.Plan.{Counted, Stored, fitsPool}
-use Rattle.rules.specs.Edit.{each, firstSlot, slotCount, owned, own, ownUnless}
-use Rattle.rules.specs.Write.{planWrite}
-use Rattle.store.specs.Own.{takes, NoneFree, SlotOwned, RangeOwned}
+use Rattle.rules.specs.Lists.{bit, sumTo, each}
+use Rattle.rules.specs.Store.{Geometry, word, holds, holders, blockBound, used, owed, lowestFree, fitsPool, holeOrShared}
+use Rattle.rules.specs.Edit.{firstSlot, slotCount, owned}
+use Rattle.rules.proofs.Steps.{own, ownUnless, planWrite}
 use Rattle.rules.proofs.CountLaws.{sumTo-add, sumTo-point, sumTo-cut, sumTo-ge}
 use Rattle.rules.proofs.NeedLaws.{lowestFree-least}
-use Rattle.rules.proofs.PlanLaws.{each-sameR, ownUnless-sameR, own-slot, plan-used}
+use Rattle.rules.proofs.PlanLaws.{each-sameR, ownUnless-sameR, own-slot, plan-used, InPool}
+use Rattle.store.specs.Tally.{takesBy, firstZero}
+use Rattle.store.specs.Plan.{Counted, Stored}
+use Rattle.store.specs.Own.{NoneFree, SlotOwned, RangeOwned}
 use Rattle.store.proofs.RangeLaws.{each-shift}
 use Rattle.store.proofs.TallyLaws.{takes-same, tallied-free, tallied-full}
 
@@ -45,14 +42,14 @@ one-block n w h = go (w / 2) refl
           sumTo-point n o (λ b. bit (holds b w)) (λ b. 0) (omega arith) (λ b d. other b (λ (q : w / 2 ≡ suc b). d (omega arith))),
         )
 
-holders-all : (n : ℕ) (ws : List ℕ) → top ws ≤ n → sumTo n (λ b. holders b ws) ≤ length ws
+holders-all : (n : ℕ) (ws : List ℕ) → blockBound ws ≤ n → sumTo n (λ b. holders b ws) ≤ length ws
 holders-all n [] h = omega (arith, sumTo-cut 0 n (λ b. 0) (omega arith) (λ b l. refl))
 holders-all n (w ∷ ws) h =
     omega (arith, sumTo-add n (λ b. bit (holds b w)) (λ b. holders b ws), one-block n w (omega arith), holders-all n ws (omega arith))
 
 pub lowestFree≤slots : (ws : List ℕ) → lowestFree ws ≤ length ws
 lowestFree≤slots ws =
-    let n : ℕ = max (top ws) (lowestFree ws) in
+    let n : ℕ = max (blockBound ws) (lowestFree ws) in
     omega (arith, sumTo-ge (lowestFree ws) n (λ b. holders b ws) (omega arith) (lowestFree-least ws), holders-all n ws (omega arith))
 
 -- ---- one slot
@@ -75,7 +72,7 @@ module _ (ws cs : List ℕ) (known : Counted ws cs) where
   free-low h = omega (arith, tallied-free ws cs (known .table) (known .pool) h, lowestFree≤slots ws, known .few)
 
   module _ (i : ℕ) where
-    takes-is : takesBy cs (getD ws i 0) ≡ takes ws (getD ws i 0)
+    takes-is : takesBy cs (getD ws i 0) ≡ holeOrShared ws (getD ws i 0)
     takes-is = takes-same ws cs (known .table) (known .pool) (getD ws i 0) (known .pool i)
 
     pub slot-kept : takesBy cs (getD ws i 0) ≡ false → SlotOwned false ws cs i true ws cs

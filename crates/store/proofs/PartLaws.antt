@@ -11,7 +11,7 @@ use lib.ListN.{length, getD, take, drop, length-take, length-drop}
 use lib.Seq.{ext-getD, getD-take, getD-drop}
 use Rattle.xdr.specs.Bytes.{splice}
 use Rattle.xdr.proofs.BytesLaws.{length-splice, splice-in, splice-below, splice-above}
-use Rattle.rules.specs.Content.{tab}
+use Rattle.rules.specs.Lists.{tabulate}
 use Rattle.rules.specs.Edit.{within, overlay}
 use Rattle.rules.proofs.ViewLaws.{length-overlay, getD-overlay, length-tab, getD-tab}
 use Rattle.rules.proofs.WriteLaws.{outside, inside}
@@ -23,14 +23,14 @@ overlay-ext s t new (x ∷ xs) p h = rw (h p (omega arith) (omega arith)) (ap (�
 
 -- n places from a on, in a list of bytes that starts at place p
 pub overlay-splice : (new : ℕ → ℕ) (xs : List ℕ) (p a n : ℕ) → a + n ≤ length xs
-    → overlay (within (p + a) (p + a + n)) new p xs ≡ splice xs a (tab new (p + a) n)
+    → overlay (within (p + a) (p + a + n)) new p xs ≡ splice xs a (tabulate new (p + a) n)
 overlay-splice new xs p a n h = ext-getD 0 _ _ (length-overlay w new xs p ∙ sym same) (λ j l. at-j j (rw (length-overlay w new xs p) at l) (decLe a j) (decLt j (a + n)))
   where
     w : ℕ → Bool
     w = within (p + a) (p + a + n)
 
     bs : List ℕ
-    bs = tab new (p + a) n
+    bs = tabulate new (p + a) n
 
     len : length bs ≡ n
     len = length-tab new n (p + a)
@@ -56,14 +56,14 @@ overlay-splice new xs p a n h = ext-getD 0 _ _ (length-overlay w new xs p ∙ sy
         (sym (splice-above xs a bs j (omega arith) (rw len (omega (arith, d)))))
 
 -- what WRITE of d at `off` stores at n places from p on
-pub write-part : (d : List ℕ) (off p n : ℕ) → off ≤ p → p + n ≤ off + length d → tab (λ i. getD d (i - off) 0) p n ≡ take n (drop (p - off) d)
+pub write-part : (d : List ℕ) (off p n : ℕ) → off ≤ p → p + n ≤ off + length d → tabulate (λ i. getD d (i - off) 0) p n ≡ take n (drop (p - off) d)
 write-part d off p n h u = ext-getD 0 _ _ (length-tab new n p ∙ sym (length-take n (drop (p - off) d) ∙ rw (length-drop (p - off) d) (omega arith)))
     (λ j l. at-j j (rw (length-tab new n p) at l))
   where
     new : ℕ → ℕ
     new i = getD d (i - off) 0
 
-    at-j : (j : ℕ) → j < n → getD (tab new p n) j 0 ≡ getD (take n (drop (p - off) d)) j 0
+    at-j : (j : ℕ) → j < n → getD (tabulate new p n) j 0 ≡ getD (take n (drop (p - off) d)) j 0
     at-j j l =
         getD-tab new n p j l ∙ ap (λ y. getD d y 0) place ∙ sym (getD-take n (drop (p - off) d) j 0 l ∙ getD-drop (p - off) d j 0)
       where

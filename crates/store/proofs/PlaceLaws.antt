@@ -13,9 +13,8 @@ use lib.ListN.{length, getD, take, drop, replicate, length-append, length-take, 
 use lib.Seq.{ext-getD, getD-take, getD-drop, length-take-le, take-at}
 use Rattle.xdr.specs.Bytes.{Written}
 use Rattle.xdr.proofs.BytesLaws.{put-splice}
-use Rattle.rules.specs.Geometry.{Geometry}
-use Rattle.rules.specs.Store.{Store, wordOf}
-use Rattle.rules.specs.Content.{byteAt, tab, bytesFrom}
+use Rattle.rules.specs.Lists.{tabulate}
+use Rattle.rules.specs.Store.{Geometry, Store, wordOf, byteAt, bytesFrom}
 use Rattle.rules.specs.Read.{holeAt}
 use Rattle.store.specs.ReadCode.{Placed, Readable, InSlot}
 use Rattle.rules.proofs.GeometryLaws.{Good, good, slots-all, block-pos}
@@ -105,16 +104,16 @@ share-ready g ws m f off n h xs e at r l d =
     rw (part-length at r xs (omega arith)) (readable-to h _ (omega arith), record { some = omega (arith, rest); ends = omega (arith, div-add-mod' (off + at) (g .B), rest) })
 
 -- a lent part that comes back with the next n values
-pub read-on : (v : ℕ → ℕ) (xs ys : List ℕ) (off at n : ℕ) → at + n ≤ length xs → take at xs ≡ tab v off at
-    → ys ≡ tab v (off + at) (length (P.midOf at (at + n - at) xs)) → take (at + n) (P.putMid at (at + n - at) xs ys) ≡ tab v off (at + n)
+pub read-on : (v : ℕ → ℕ) (xs ys : List ℕ) (off at n : ℕ) → at + n ≤ length xs → take at xs ≡ tabulate v off at
+    → ys ≡ tabulate v (off + at) (length (P.midOf at (at + n - at) xs)) → take (at + n) (P.putMid at (at + n - at) xs ys) ≡ tabulate v off (at + n)
 read-on v xs ys off at n h e d =
-    let ys-are : ys ≡ tab v (off + at) n = d ∙ ap (tab v (off + at)) (part-length at n xs h) in
+    let ys-are : ys ≡ tabulate v (off + at) n = d ∙ ap (tabulate v (off + at)) (part-length at n xs h) in
     let len : length (take at xs ++ ys) ≡ at + n = omega (arith, length-append (take at xs) ys, length-take-le at xs (omega arith), ap length ys-are, length-tab v n (off + at)) in
     ap (take (at + n)) (sym (append-assoc (take at xs) ys (P.postOf at (at + n - at) xs))) ∙ take-at (take at xs ++ ys) (P.postOf at (at + n - at) xs) (at + n) len
     ∙ rw (e, ys-are) (sym (tab-append v at n off))
 
 -- n values read into a lent part
-pub read-written : (v : ℕ → ℕ) (xs ys : List ℕ) (i at n : ℕ) → at + n ≤ length xs → ys ≡ tab v i (length (P.midOf at (at + n - at) xs))
-    → Written (tab v i n) n at xs (P.putMid at (at + n - at) xs ys) (at + n)
+pub read-written : (v : ℕ → ℕ) (xs ys : List ℕ) (i at n : ℕ) → at + n ≤ length xs → ys ≡ tabulate v i (length (P.midOf at (at + n - at) xs))
+    → Written (tabulate v i n) n at xs (P.putMid at (at + n - at) xs ys) (at + n)
 read-written v xs ys i at n h e =
-    record { bytes = put-splice at n xs ys (tab v i n) (e ∙ ap (tab v i) (part-length at n xs h)) (length-tab v n i); size = length-tab v n i; place = refl }
+    record { bytes = put-splice at n xs ys (tabulate v i n) (e ∙ ap (tabulate v i) (part-length at n xs h)) (length-tab v n i); size = length-tab v n i; place = refl }

@@ -1,22 +1,21 @@
 -- ALLOCATE and CLONE in place: a plan, then the size; the memory stays.
 use Prim.Native.Nat.{ℕ, _+_, _*_, _/_, _%_, _≤_, _<_, max}
-use mathlib.Core.Path.{_≡_, refl}
+use mathlib.Core.Path.{_≡_, refl, _∙_}
 use mathlib.Core.Bool.{Bool, true, false, not}
 use mathlib.Core.List.{List}
 use native.Mathlib.Nat.{mul-le-mul-right, div-add-mod'}
 use native.Mathlib.Omega.{arith}
 use borrow.Author.Tests.{le-leb, lt-leb}
 use lib.ListN.{length, set}
-use Rattle.rules.specs.Geometry.{Geometry}
-use Rattle.rules.specs.Store.{Store, sizeOf}
-use Rattle.store.specs.Plan.{Planned}
-use Rattle.rules.specs.Sound.{ceilDiv}
-use Rattle.rules.specs.Edit.{each, firstSlot, slotCount}
-use Rattle.rules.specs.Allocate.{reserve, editAllocate}
-use Rattle.rules.specs.Clone.{share, editClone}
-use Rattle.store.specs.Edits.{EditPromise, RegionKnown, SlotsKnown, CloneKnown}
+use Rattle.rules.specs.Lists.{ceilDiv, each}
+use Rattle.rules.specs.Store.{Geometry, Store, sizeOf}
+use Rattle.rules.specs.Edit.{firstSlot, slotCount, edited, allocating, cloning}
+use Rattle.rules.proofs.Steps.{reserve, share}
 use Rattle.rules.proofs.GeometryLaws.{block-pos, file-most}
 use Rattle.rules.proofs.FileLaws.{ceil-behind}
+use Rattle.store.specs.Plan.{Planned}
+use Rattle.store.specs.Edits.{EditPromise, RegionKnown, SlotsKnown, CloneKnown}
+use Rattle.rules.proofs.EditForms.{allocate-is, clone-is}
 use Rattle.store.proofs.RangeLaws.{plan-allocate-is, plan-clone-is}
 use Rattle.store.proofs.WriteEdit.{good-geometry, sound-store, edit-none, plan-refused, plan-done, slotAt, slots-inside, file-inside}
 
@@ -32,19 +31,18 @@ module _ {g : Geometry} {st : Store} {cs : List ℕ} {f off end : ℕ} (k : Regi
   pub region-file : f < length (st .sizes)
   region-file = file-inside region-slots
 
-  allocate-is : editAllocate g st f off end
+  edit-is : edited g st (allocating f off end)
       ≡ record { sizes = set (st .sizes) f (max (sizeOf st f) end); words = each (reserve (slotAt g f (firstSlot g off))) (st .words) 0 (slotCount g off end); mem = st .mem }
-  unfolding editAllocate
-  allocate-is = rw (lt-leb end off (k .some), plan-allocate-is g (st .words) f off end)
+  edit-is = allocate-is g st f off end (k .some) ∙ rw (plan-allocate-is g (st .words) f off end)
 
   module _ {done : Bool} {after cs′ : List ℕ} (same : length cs′ ≡ length cs)
       (p : Planned (st .words) (each (reserve (slotAt g f (firstSlot g off))) (st .words) 0 (slotCount g off end)) done after cs′) where
-    pub allocate-refused : not done ≡ true → EditPromise g st (editAllocate g st f off end) false (record { sizes = st .sizes; words = after; mem = st .mem }) cs′
-    allocate-refused = plan-refused (k .known) allocate-is same p
+    pub allocate-refused : not done ≡ true → EditPromise g st (edited g st (allocating f off end)) false (record { sizes = st .sizes; words = after; mem = st .mem }) cs′
+    allocate-refused = plan-refused (k .known) edit-is same p
 
     pub allocate-done : not done ≡ false → {sizes′ : List ℕ} → sizes′ ≡ set (st .sizes) f (max (sizeOf st f) end)
-        → EditPromise g st (editAllocate g st f off end) true (record { sizes = sizes′; words = after; mem = st .mem }) cs′
-    allocate-done e s = plan-done (k .known) allocate-is same p e s refl
+        → EditPromise g st (edited g st (allocating f off end)) true (record { sizes = sizes′; words = after; mem = st .mem }) cs′
+    allocate-done e s = plan-done (k .known) edit-is same p e s refl
 
 -- ---- CLONE
 
@@ -65,8 +63,8 @@ pub record CloneRoom (g : Geometry) (st : Store) (s f soff off n : ℕ) : Type 0
   pub file-inside : f < length (st .sizes)
 
 module _ {g : Geometry} {st : Store} {cs : List ℕ} {s f soff off n : ℕ} (k : CloneKnown g st cs s f soff off n) where
-  pub clone-empty : n ≡ 0 → EditPromise g st (editClone g st s f soff off n) true st cs
-  unfolding editClone
+  pub clone-empty : n ≡ 0 → EditPromise g st (edited g st (cloning f off (off + n) s soff)) true st cs
+  unfolding edited
   clone-empty e = edit-none (k .known) _ (rw (le-leb (off + n) off (omega arith)))
 
   module _ (some : 0 < n) where
@@ -88,20 +86,19 @@ module _ {g : Geometry} {st : Store} {cs : List ℕ} {s f soff off n : ℕ} (k :
           file-inside = omega (arith, d .files, k .known .file);
         }
 
-    clone-is : editClone g st s f soff off n
+    shares-is : edited g st (cloning f off (off + n) s soff)
         ≡ record {
           sizes = set (st .sizes) f (max (sizeOf st f) (off + n));
           words = each (share (slotAt g s (soff / g .B)) (slotAt g f (off / g .B))) (st .words) 0 (ceilDiv n (g .B));
           mem = st .mem;
         }
-    unfolding editClone
-    clone-is = rw (lt-leb (off + n) off (omega arith), plan-clone-is g (st .words) s f soff off n)
+    shares-is = clone-is g (clone-room .pos) st s f soff off n (k .target-even) some ∙ rw (plan-clone-is g (st .words) s f soff off n)
 
     module _ {done : Bool} {after cs′ : List ℕ} (same : length cs′ ≡ length cs)
         (p : Planned (st .words) (each (share (slotAt g s (soff / g .B)) (slotAt g f (off / g .B))) (st .words) 0 (ceilDiv n (g .B))) done after cs′) where
-      pub clone-refused : not done ≡ true → EditPromise g st (editClone g st s f soff off n) false (record { sizes = st .sizes; words = after; mem = st .mem }) cs′
-      clone-refused = plan-refused (k .known) clone-is same p
+      pub clone-refused : not done ≡ true → EditPromise g st (edited g st (cloning f off (off + n) s soff)) false (record { sizes = st .sizes; words = after; mem = st .mem }) cs′
+      clone-refused = plan-refused (k .known) shares-is same p
 
       pub clone-done : not done ≡ false → {sizes′ : List ℕ} → sizes′ ≡ set (st .sizes) f (max (sizeOf st f) (off + n))
-          → EditPromise g st (editClone g st s f soff off n) true (record { sizes = sizes′; words = after; mem = st .mem }) cs′
-      clone-done e s = plan-done (k .known) clone-is same p e s refl
+          → EditPromise g st (edited g st (cloning f off (off + n) s soff)) true (record { sizes = sizes′; words = after; mem = st .mem }) cs′
+      clone-done e s = plan-done (k .known) shares-is same p e s refl

@@ -10,16 +10,14 @@ use native.Mathlib.Omega.{arith}
 use borrow.Author.Tests.{leb-true, leb-false, le-leb, lt-leb}
 use lib.ListN.{length, getD, set}
 use lib.Dec.{leb}
-use Rattle.rules.specs.Geometry.{Geometry, goodGeometry}
-use Rattle.rules.specs.Sound.{ceilDiv}
-use Rattle.rules.specs.Edit.{each, firstSlot, slotCount}
-use Rattle.rules.specs.Allocate.{reserve, planAllocate}
-use Rattle.rules.specs.Clone.{share, planClone}
-use Rattle.rules.specs.Deallocate.{whole, giveBack, planGiveBack}
-use Rattle.store.specs.Plan.{Counted, Stored}
-use Rattle.store.specs.Ranges.{RangeDone}
+use Rattle.rules.specs.Lists.{ceilDiv, each}
+use Rattle.rules.specs.Store.{Geometry, goodGeometry}
+use Rattle.rules.specs.Edit.{firstSlot, slotCount, givesBack}
+use Rattle.rules.proofs.Steps.{reserve, planAllocate, share, planClone, giveBack, planGiveBack}
 use Rattle.rules.proofs.GeometryLaws.{good, file-most}
 use Rattle.rules.proofs.ViewLaws.{Local, plan-before, plan-after}
+use Rattle.store.specs.Plan.{Counted, Stored}
+use Rattle.store.specs.Ranges.{RangeDone}
 
 -- ---- one slot
 
@@ -93,7 +91,7 @@ unfolding planClone
 plan-clone-is g ws s f soff off n = refl
 
 pub plan-give-back-is : (g : Geometry) (ws : List ℕ) (f size off end : ℕ)
-    → planGiveBack g ws f size off end ≡ each (giveBack (f * g .S) (whole g size off end)) ws (firstSlot g off) (slotCount g off end)
+    → planGiveBack g ws f size off end ≡ each (giveBack (f * g .S) (givesBack g size off end)) ws (firstSlot g off) (slotCount g off end)
 unfolding planGiveBack
 plan-give-back-is g ws f size off end = refl
 

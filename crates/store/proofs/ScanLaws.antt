@@ -13,15 +13,13 @@ use Rattle.xdr.specs.Bytes.{splice, Written}
 use Rattle.xdr.specs.Encode.{opaqueSize, concatMap}
 use Rattle.xdr.proofs.BytesLaws.{written-then}
 use Rattle.xdr.proofs.EncodeLaws.{length-u32, length-u64, length-opaque}
-use Rattle.rules.specs.Geometry.{Geometry}
-use Rattle.rules.specs.Store.{Store, sizeOf}
-use Rattle.rules.specs.Content.{bytesFrom}
-use Rattle.rules.specs.Read.{Piece, holeAt, join, pieces, holePiece, dataPiece, pieceBytes, pieceSize, piecesSize}
-use Rattle.rules.specs.Seek.{seekFrom, seekPlace}
-use Rattle.store.specs.ReadCode.{Placed, Readable, holeIn, PieceEnds, pieceAt, piecesTo, PiecesPut}
+use Rattle.rules.specs.Store.{Geometry, Store, sizeOf, bytesFrom}
+use Rattle.rules.specs.Read.{Piece, holeAt, join, pieces, seekFrom, seekPlace}
+use Rattle.rules.specs.Operation.{holePiece, dataPiece, pieceBytes}
+use Rattle.store.specs.ReadCode.{Placed, Readable, holeIn, PieceEnds, pieceAt, piecesTo, PiecesPut, pieceSize, piecesSize}
 use Rattle.rules.proofs.ViewLaws.{length-tab}
 use Rattle.rules.proofs.ReadLaws.{pieces-none, slot-end, same-kind, Reaches, reached, reaches-slot, reaches-next, reaches-all, First, seek-first}
-use Rattle.rules.proofs.PieceLaws.{Unlike}
+use Rattle.rules.specs.Claim.{Unlike}
 use Rattle.store.proofs.PlaceLaws.{placed-pos, readable-pos}
 
 -- ---- SEEK

@@ -10,16 +10,15 @@ use lib.ListN.{length, getD, take, drop, length-take, length-drop, List·getD-eq
 use lib.Seq.{getD-take, getD-drop, length-take-le, ext-getD}
 use Rattle.xdr.specs.Bytes.{splice}
 use Rattle.xdr.proofs.BytesLaws.{length-splice, splice-in, splice-below, splice-above}
-use Rattle.rules.specs.Geometry.{Geometry}
-use Rattle.rules.specs.Store.{isHole, wordOf}
-use Rattle.store.specs.Tables.{InPool}
-use Rattle.store.specs.Plan.{Counted, fitsPool, Planned}
-use Rattle.rules.specs.Edit.{each, firstSlot, slotCount, own, ownUnless}
-use Rattle.rules.specs.Deallocate.{whole, giveBack, stays, planGiveBack, planDeallocate}
-use Rattle.store.specs.Ranges.{RangeDone}
-use Rattle.store.specs.Own.{Undone, SlotOwned, RangeOwned, staysBy}
-use Rattle.rules.proofs.PlanLaws.{each-ext}
+use Rattle.rules.specs.Lists.{each}
+use Rattle.rules.specs.Store.{Geometry, isHole, wordOf, fitsPool}
+use Rattle.rules.specs.Edit.{firstSlot, slotCount, givesBack}
+use Rattle.rules.proofs.Steps.{own, ownUnless, giveBack, skips, planGiveBack, planDeallocate}
+use Rattle.rules.proofs.PlanLaws.{each-ext, InPool}
 use Rattle.rules.proofs.ViewLaws.{Local, own-local}
+use Rattle.store.specs.Plan.{Counted, Planned}
+use Rattle.store.specs.Ranges.{RangeDone}
+use Rattle.store.specs.Own.{Undone, SlotOwned, RangeOwned, skipsBy}
 use Rattle.store.proofs.RangeLaws.{range-outside}
 use Rattle.store.proofs.OwnLaws.{stop-unfit}
 
@@ -131,11 +130,11 @@ module _ (ws : List ℕ) (i n : ℕ) (old : List ℕ) (saved : old ≡ take (i +
 -- the plan of a DEALLOCATE, by the old words of its slots: they say which slots stay
 pub plan-deallocate-is : (g : Geometry) (ws : List ℕ) (f size off end : ℕ) (old : List ℕ) → old ≡ take (slotCount g off end) (drop (f * g .S + firstSlot g off) ws)
     → planDeallocate g ws f size off end
-    ≡ each (ownUnless (staysBy g size off end (firstSlot g off) old) (f * g .S))
-    (each (giveBack (f * g .S) (whole g size off end)) ws (firstSlot g off) (slotCount g off end)) (firstSlot g off) (slotCount g off end)
-unfolding planDeallocate planGiveBack stays staysBy
+    ≡ each (ownUnless (skipsBy g size off end (firstSlot g off) old) (f * g .S))
+    (each (giveBack (f * g .S) (givesBack g size off end)) ws (firstSlot g off) (slotCount g off end)) (firstSlot g off) (slotCount g off end)
+unfolding planDeallocate planGiveBack skips skipsBy
 plan-deallocate-is g ws f size off end old e =
-    each-ext _ _ (slotCount g off end) (firstSlot g off) _ (λ x k l u. ap (λ w. cond (whole g size off end k || isHole w) x (own (f * g .S) x k)) (sym (word k l u)))
+    each-ext _ _ (slotCount g off end) (firstSlot g off) _ (λ x k l u. ap (λ w. cond (givesBack g size off end k || isHole w) x (own (f * g .S) x k)) (sym (word k l u)))
   where
     word : (k : ℕ) → firstSlot g off ≤ k → k < firstSlot g off + slotCount g off end → getD old (k - firstSlot g off) 0 ≡ wordOf g ws f k
     word k l u =
@@ -146,7 +145,7 @@ plan-deallocate-is g ws f size off end old e =
 
 -- a slot by its old word
 pub slot-edge : (g : Geometry) (size off end first : ℕ) (old : List ℕ) (j : ℕ) {ws cs after cs′ : List ℕ} {i : ℕ} {d : Bool}
-    → SlotOwned (whole g size off end (first + j) || isHole (getD old j 0)) ws cs i d after cs′
-    → SlotOwned (staysBy g size off end first old (first + j)) ws cs i d after cs′
-unfolding staysBy
+    → SlotOwned (givesBack g size off end (first + j) || isHole (getD old j 0)) ws cs i d after cs′
+    → SlotOwned (skipsBy g size off end first old (first + j)) ws cs i d after cs′
+unfolding skipsBy
 slot-edge g size off end first old j s = let e : first + j - first ≡ j = omega arith in rw e s

@@ -10,17 +10,15 @@ use native.Mathlib.Omega.{arith}
 use lib.ListN.{length, getD, take, drop}
 use lib.Dec.{ltb, eqb}
 use borrow.Author.Tests.{lt-ltb, le-ltb, eq-eqb, ne-eqb, ltb-true, eqb-true}
-use Rattle.rules.specs.Geometry.{Geometry, goodGeometry}
-use Rattle.rules.specs.Count.{allTo}
-use Rattle.rules.specs.Store.{Store, goodLengths, isHole, wordOf}
-use Rattle.store.specs.Tables.{Shaped}
-use Rattle.rules.specs.Sound.{sound}
+use Rattle.rules.specs.Lists.{allTo}
+use Rattle.rules.specs.Store.{Geometry, goodGeometry, Store, goodLengths, isHole, wordOf, sound}
 use Rattle.rules.specs.Calls.{storeRefusal, slotRefusals, slotRefusal, slotView, slotIsHole, KindPromise}
+use Rattle.store.specs.Tables.{Shaped}
 use Rattle.rules.proofs.BoolLaws.{and-left, and-right, not-is}
 use Rattle.rules.proofs.FirstLaws.{all-clear}
-use Rattle.store.proofs.FileTests.{FileRoom, file-room}
 use Rattle.rules.proofs.SoundLaws.{sound-facts}
 use Rattle.rules.proofs.GeometryLaws.{good, block-pos}
+use Rattle.store.proofs.FileTests.{FileRoom, file-room}
 
 -- what a store's refusal number says
 pub data Verdict (g : Geometry) (st : Store) : ℕ → Type 0 where

@@ -13,19 +13,18 @@ use lib.ListN.{length, getD, take, drop, replicate, length-take, length-drop}
 use lib.Seq.{length-take-le, take-at, drop-at, drop-drop, getD-take, getD-drop}
 use Rattle.xdr.specs.Bytes.{splice}
 use Rattle.xdr.proofs.BytesLaws.{length-splice, put-splice, put-zeroed}
-use Rattle.rules.specs.Geometry.{Geometry}
-use Rattle.rules.specs.Store.{Store}
-use Rattle.rules.specs.Content.{tab}
-use Rattle.rules.specs.Edit.{each, within, firstSlot, slotCount, slotBytes, overlay, storeSlot, storeAt}
-use Rattle.rules.specs.Write.{planWrite, writeBytes}
-use Rattle.store.specs.Tables.{InPool}
-use Rattle.store.specs.Bytes.{Starts, Backed, Touched, AllTouched, storeSlots}
+use Rattle.rules.specs.Lists.{tabulate, each}
+use Rattle.rules.specs.Store.{Geometry, Store}
+use Rattle.rules.specs.Edit.{within, firstSlot, slotCount, slotBytes, overlay, storeSlot}
+use Rattle.rules.proofs.Steps.{storeAt, planWrite, writeBytes}
 use Rattle.rules.proofs.GeometryLaws.{Good, block-pos, file-most}
 use Rattle.rules.proofs.FileLaws.{slot-bytes}
 use Rattle.rules.proofs.ViewLaws.{slot-long}
 use Rattle.rules.proofs.WriteLaws.{outside, inside}
-use Rattle.store.proofs.PartLaws.{overlay-ext, overlay-splice, write-part}
 use Rattle.rules.proofs.ReadLaws.{tab-zeros}
+use Rattle.store.specs.Bytes.{Starts, Backed, Touched, AllTouched, storeSlots}
+use Rattle.store.proofs.PartLaws.{overlay-ext, overlay-splice, write-part}
+use Rattle.rules.proofs.PlanLaws.{InPool}
 
 -- ---- splices
 
@@ -108,7 +107,7 @@ module _ (g : Geometry) (m : List ℕ) (old new : ℕ) (h : Backed g (length m) 
 module _ (g : Geometry) (m : List ℕ) (old new k off end a b : ℕ) (h : Touched g (length m) old new k off end)
     (ha : a ≡ max off (k * g .B)) (hb : b ≡ min end (k * g .B + g .B)) where
   pub share : (byte : ℕ → ℕ)
-      → splice m (pred (new / 2) * g .B) (splice (slotBytes g m old) (a - k * g .B) (tab byte a (b - a))) ≡ storeSlot g (within off end) byte old new m k
+      → splice m (pred (new / 2) * g .B) (splice (slotBytes g m old) (a - k * g .B) (tabulate byte a (b - a))) ≡ storeSlot g (within off end) byte old new m k
   unfolding storeSlot
   share byte = ap (splice m (pred (new / 2) * g .B)) (sym whole)
     where
@@ -132,7 +131,7 @@ module _ (g : Geometry) (m : List ℕ) (old new k off end a b : ℕ) (h : Touche
       same i l u (no n) v = outside off end i (inl (omega (arith, n))) ∙ sym (outside a b i (inl (omega (arith, n))))
       same i l u (yes q) (no n) = outside off end i (inr (omega (arith, n))) ∙ sym (outside a b i (inr (omega (arith, n))))
 
-      whole : overlay (within off end) byte p bs ≡ splice bs (a - p) (tab byte a (b - a))
+      whole : overlay (within off end) byte p bs ≡ splice bs (a - p) (tabulate byte a (b - a))
       whole =
           overlay-ext (within off end) (within a b) byte bs p (λ i l u. same i l u (decLe off i) (decLt i end))
           ∙ rw (from, to) at (overlay-splice byte bs p (a - p) (b - a) (omega (arith, long, h .ordered, h .after, h .before)))

@@ -9,18 +9,16 @@ use native.Mathlib.Omega.{arith}
 use lib.ListN.{length, getD, take, replicate, length-replicate, List·getD-eq-default}
 use lib.Dec.{leb, ltb}
 use borrow.Author.Tests.{leb-true, le-leb, lt-leb, not-true, not-false}
-use Rattle.rules.specs.Geometry.{Geometry}
-use Rattle.rules.specs.Count.{allTo, count}
-use Rattle.rules.specs.Store.{Store}
-use Rattle.rules.specs.Blocks.{used, owed}
-use Rattle.store.specs.Tables.{Shaped, Pooled, InPool, Tallied}
+use Rattle.rules.specs.Lists.{allTo, count}
+use Rattle.rules.specs.Store.{Geometry, Store, used, owed, soundFile, sound}
+use Rattle.store.specs.Tables.{Shaped, Pooled, Tallied}
 use Rattle.store.specs.Tally.{Untallied, owesBy}
-use Rattle.rules.specs.Sound.{soundFile, sound}
 use Rattle.store.specs.Survey.{TableReady, TableFits, Surveyed}
 use Rattle.rules.proofs.GeometryLaws.{good, slots-all, lengths}
 use Rattle.rules.proofs.SoundLaws.{allTo-at}
 use Rattle.store.proofs.TallyLaws.{count-most, tallied-used, tallied-owed}
 use Rattle.store.proofs.CallLaws.{count-unsound, count-sound, sound-words, sound-files, sound-room}
+use Rattle.rules.proofs.PlanLaws.{InPool}
 
 -- a store that is not sound
 unsound : (g : Geometry) (st : Store) (counts : List ℕ) → Shaped g st → sound g st ≡ false → Surveyed g st 3 0 0 counts

@@ -12,14 +12,14 @@ use borrow.Author.Tests.{eq-eqb, ne-eqb, eqb-true, eqb-false}
 use lib.ListN.{length, getD, set, drop, drop-of-length-le}
 use lib.Seq.{drop-cons, getD-set-same, getD-set-other}
 use lib.Dec.{ltb, eqb}
-use Rattle.rules.specs.Count.{bit, count, sumTo, countTo, allTo}
-use Rattle.rules.specs.Store.{isHole, isReserved}
-use Rattle.rules.specs.Blocks.{isShared, holds, holders, top, used, owes, owed, lowestFree}
-use Rattle.store.specs.Tables.{InPool, Tallied}
+use Rattle.rules.specs.Lists.{bit, count, sumTo, countTo, allTo}
+use Rattle.rules.specs.Store.{isHole, isReserved, isShared, holds, holders, blockBound, used, owes, owed, lowestFree}
+use Rattle.store.specs.Tables.{Tallied}
 use Rattle.store.specs.Tally.{noted, takesBy, owesBy, firstZero}
 use Rattle.rules.proofs.CountLaws.{sumTo-ext, count-drop}
 use Rattle.rules.proofs.NeedLaws.{lowestFree-free, scan-ends, used-to}
 use Rattle.rules.proofs.SoundLaws.{allTo-at}
+use Rattle.rules.proofs.PlanLaws.{InPool}
 
 -- ---- tests and counts
 
@@ -115,7 +115,7 @@ first-below (suc x ∷ l) (suc b) h =
 
 -- ---- read off the table
 
-pool-top : (n : ℕ) (ws : List ℕ) → InPool n ws → top ws ≤ n
+pool-top : (n : ℕ) (ws : List ℕ) → InPool n ws → blockBound ws ≤ n
 pool-top n [] h = omega arith
 pool-top n (w ∷ ws) h = omega (arith, h 0, pool-top n ws (λ p. h (suc p)))
 

@@ -10,8 +10,8 @@ use lib.ListN.{length, getD, set, length-set}
 use lib.Seq.{getD-set-same, getD-set-other}
 use lib.Dec.{eqb}
 use borrow.Author.Tests.{eqb-true, eqb-false, eq-eqb, ne-eqb}
-use Rattle.rules.specs.Count.{bit}
-use Rattle.rules.specs.Blocks.{holds, holders}
+use Rattle.rules.specs.Lists.{bit}
+use Rattle.rules.specs.Store.{holds, holders}
 use Rattle.store.specs.Tally.{noted, forgot}
 use Rattle.store.specs.Plan.{Counted, Stored}
 use Rattle.rules.proofs.CountLaws.{count-set}

@@ -9,22 +9,19 @@ use borrow.Author.Tests.{le-leb, not-true, not-false}
 use lib.ListN.{length, getD, set, take, drop, length-drop}
 use lib.Seq.{length-take-le, getD-take, getD-drop, set-getD}
 use lib.Dec.{leb}
-use Rattle.rules.specs.Geometry.{Geometry, goodGeometry}
-use Rattle.rules.specs.Store.{Store, sizeOf}
-use Rattle.rules.specs.Blocks.{need}
-use Rattle.store.specs.Tables.{InPool}
-use Rattle.rules.specs.Sound.{ceilDiv}
+use Rattle.rules.specs.Lists.{ceilDiv, each}
+use Rattle.rules.specs.Store.{Geometry, goodGeometry, Store, sizeOf, need, fitsPool}
+use Rattle.rules.specs.Edit.{within, firstSlot, slotCount, edited, writing}
+use Rattle.rules.proofs.Steps.{own, planWrite, writeBytes}
+use Rattle.rules.proofs.GeometryLaws.{Good, good, block-pos, file-most}
+use Rattle.rules.proofs.PlanLaws.{each-sameR, own-sameR, InPool}
+use Rattle.rules.proofs.FileLaws.{Sound, first-before, slots-fit}
+use Rattle.rules.proofs.EditForms.{write-is}
+use Rattle.rules.proofs.SoundLaws.{sound-facts}
 use Rattle.store.specs.Plan.{Counted, Planned}
 use Rattle.store.specs.Own.{WritePlanned}
-use Rattle.rules.specs.Edit.{each, within, firstSlot, slotCount, own}
-use Rattle.rules.specs.Write.{planWrite, writeBytes, editWrite}
 use Rattle.store.specs.Bytes.{AllTouched, storeSlots}
 use Rattle.store.specs.Edits.{EditKnown, EditPromise, RegionKnown, SlotsKnown, Finished}
-use Rattle.rules.proofs.GeometryLaws.{Good, good, block-pos, file-most}
-use Rattle.rules.proofs.PlanLaws.{each-sameR, own-sameR}
-use Rattle.rules.proofs.FileLaws.{Sound, first-before, slots-fit}
-use Rattle.rules.proofs.WriteLaws.{write-is}
-use Rattle.rules.proofs.SoundLaws.{sound-facts}
 use Rattle.store.proofs.SettleLaws.{saved-pool}
 use Rattle.store.proofs.OwnLaws.{plan-write-is}
 use Rattle.store.proofs.StoreLaws.{all-touched, write-bytes-is}
@@ -32,11 +29,11 @@ use Rattle.store.proofs.EdgeLaws.{plan-held}
 
 -- ---- any edit: its two ways out
 
-pub edit-refused : (g : Geometry) (st planned after : Store) (cs : List ℕ) → leb (need planned) (g .N) ≡ false
+pub edit-refused : (g : Geometry) (st planned after : Store) (cs : List ℕ) → fitsPool (g .N) (planned .words) ≡ false
     → after .sizes ≡ st .sizes → after .words ≡ st .words → after .mem ≡ st .mem → Counted (after .words) cs → EditPromise g st planned false after cs
 edit-refused g st planned after cs e s w m k = record { answer = sym e; sizes-are = rw e s; words-are = rw e w; mem-is = rw e m; counted = k }
 
-pub edit-done : (g : Geometry) (st planned after : Store) (cs : List ℕ) → leb (need planned) (g .N) ≡ true
+pub edit-done : (g : Geometry) (st planned after : Store) (cs : List ℕ) → fitsPool (g .N) (planned .words) ≡ true
     → after .sizes ≡ planned .sizes → after .words ≡ planned .words → after .mem ≡ planned .mem → Counted (after .words) cs → EditPromise g st planned true after cs
 edit-done g st planned after cs e s w m k = record { answer = sym e; sizes-are = rw e s; words-are = rw e w; mem-is = rw e m; counted = k }
 
@@ -64,17 +61,17 @@ module _ {g : Geometry} {st : Store} {cs : List ℕ} {f : ℕ} (k : EditKnown g 
 
   -- an edit that plans no change
   pub edit-none : (planned : Store) → planned ≡ st → EditPromise g st planned true st cs
-  edit-none planned e = rw e (edit-done g st st st cs (le-leb (need st) (g .N) (sound-store .room)) refl refl refl (k .counted))
+  edit-none planned e = rw e (edit-done g st st st cs (le-leb (need (st .words)) (g .N) (sound-store .room)) refl refl refl (k .counted))
 
   -- a WRITE of no bytes
-  pub write-empty : (off len : ℕ) (new : ℕ → ℕ) → len ≡ 0 → EditPromise g st (editWrite g st f off (off + len) new) true st cs
-  unfolding editWrite
+  pub write-empty : (off len : ℕ) (new : ℕ → ℕ) → len ≡ 0 → EditPromise g st (edited g st (writing f off (off + len) new)) true st cs
+  unfolding edited
   write-empty off len new e = edit-none _ (rw (le-leb (off + len) off (omega arith)))
 
   -- after the plan of an edit that would leave `sizes`, `planned` and `mem`
   module _ {edit : Store} {sizes planned mem : List ℕ} (is : edit ≡ record { sizes = sizes; words = planned; mem = mem })
       {done : Bool} {after cs′ : List ℕ} (same : length cs′ ≡ length cs) (p : Planned (st .words) planned done after cs′) where
-    judged-is : leb (need edit) (g .N) ≡ done
+    judged-is : fitsPool (g .N) (edit .words) ≡ done
     judged-is = rw (is, ← k .blocks, ← same) (sym (p .answer))
 
     pub plan-refused : not done ≡ true → EditPromise g st edit false (record { sizes = st .sizes; words = after; mem = st .mem }) cs′
@@ -156,20 +153,20 @@ module _ {g : Geometry} {st : Store} {cs : List ℕ} {f off end first n : ℕ} (
   pub part-long : (ws : List ℕ) → length ws ≡ length (st .words) → length (take n (drop (slotAt g f first) ws)) ≡ n
   part-long ws h = length-take-le n (drop (slotAt g f first) ws) (rw (length-drop (slotAt g f first) ws) (omega (arith, slots-inside)))
 
-  pub edit-is : (new : ℕ → ℕ) → editWrite g st f off end new
+  pub edit-is : (new : ℕ → ℕ) → edited g st (writing f off end new)
       ≡ record { sizes = set (st .sizes) f (max (sizeOf st f) end); words = planWrite g (st .words) f off end; mem = writeBytes g st f off end new }
-  edit-is = write-is g (region-room (k .region) .pos) st snd f off end (known .file) (k .region .some) (k .region .fits)
+  edit-is new = write-is g st f off end new (k .region .some)
 
-  edit-owns : (new : ℕ → ℕ) → editWrite g st f off end new
+  edit-owns : (new : ℕ → ℕ) → edited g st (writing f off end new)
       ≡ record { sizes = set (st .sizes) f (max (sizeOf st f) end); words = each (own (slotAt g f first)) (st .words) 0 n; mem = writeBytes g st f off end new }
   edit-owns new = rw (← plan-is) (edit-is new)
 
   -- after the plan
   module _ {done : Bool} {after cs′ old : List ℕ} (same : length cs′ ≡ length cs) (p : WritePlanned (st .words) (slotAt g f first) n done after cs′ old) where
-    pub write-judged : (new : ℕ → ℕ) → leb (need (editWrite g st f off end new)) (g .N) ≡ done
+    pub write-judged : (new : ℕ → ℕ) → fitsPool (g .N) (edited g st (writing f off end new) .words) ≡ done
     write-judged new = rw (edit-owns new, ← known .blocks, ← same) (sym (p .planned .answer))
 
-    pub write-refused : (new : ℕ → ℕ) → not done ≡ true → EditPromise g st (editWrite g st f off end new) false (record { sizes = st .sizes; words = after; mem = st .mem }) cs′
+    pub write-refused : (new : ℕ → ℕ) → not done ≡ true → EditPromise g st (edited g st (writing f off end new)) false (record { sizes = st .sizes; words = after; mem = st .mem }) cs′
     write-refused new = plan-refused known (edit-owns new) same (p .planned)
 
     module _ (e : not done ≡ false) where
@@ -202,7 +199,7 @@ module _ {g : Geometry} {st : Store} {cs : List ℕ} {f off end first n : ℕ} (
 
       pub write-done : (new : ℕ → ℕ) {sizes′ mem′ : List ℕ}
           → Finished g new first old (lent after (slotAt g f first) n) f off end (st .sizes) (st .mem) sizes′ mem′
-          → EditPromise g st (editWrite g st f off end new) true (record { sizes = sizes′; words = after; mem = mem′ }) cs′
+          → EditPromise g st (edited g st (writing f off end new)) true (record { sizes = sizes′; words = after; mem = mem′ }) cs′
       write-done new {sizes′} {mem′} fin =
           plan-done known (edit-owns new) same (p .planned) e (fin .sizes-are) (fin .mem-is ∙ bytes-are)
         where

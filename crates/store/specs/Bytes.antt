@@ -5,10 +5,9 @@ use mathlib.Core.Bool.{Bool, true, false, cond, _||_}
 use mathlib.Core.List.{List}
 use mathlib.Core.Logic.{_≢_}
 use lib.ListN.{length, getD}
-use Rattle.rules.specs.Geometry.{Geometry, goodGeometry}
-use Rattle.rules.specs.Store.{isHole, wordOf}
-use Rattle.rules.specs.Edit.{each, within, storeSlot}
-use Rattle.rules.specs.Deallocate.{whole}
+use Rattle.rules.specs.Lists.{each}
+use Rattle.rules.specs.Store.{Geometry, goodGeometry, isHole, wordOf}
+use Rattle.rules.specs.Edit.{within, storeSlot, givesBack}
 use Rattle.store.specs.ReadCode.{Readable}
 
 -- the block of word w starts at r
@@ -45,13 +44,13 @@ storeSlots g region new first olds news m i n = each (λ x j. storeSlot g region
 
 -- slot k of the file, whose word goes from `old` to `new`
 unfoldable pub zeroEdge : Geometry → ℕ → ℕ → ℕ → ℕ → ℕ → List ℕ → ℕ → List ℕ
-zeroEdge g size off end old new m k = cond (whole g size off end k || isHole old) m (storeSlot g (within off end) (λ i. 0) old new m k)
+zeroEdge g size off end old new m k = cond (givesBack g size off end k || isHole old) m (storeSlot g (within off end) (λ i. 0) old new m k)
 
 -- touched, where it stores a byte
 pub record Edge (g : Geometry) (len old new k size off end : ℕ) : Type 0 where
   pub geometry : goodGeometry g ≡ true
   pub slot : k < g .S
-  pub touched : whole g size off end k || isHole old ≡ false → Touched g len old new k off end
+  pub touched : givesBack g size off end k || isHole old ≡ false → Touched g len old new k off end
 
 -- the slots from `first` on, with their words before and after
 pub record AllEdges (g : Geometry) (len : ℕ) (olds news : List ℕ) (first size off end : ℕ) : Type 0 where

@@ -6,13 +6,10 @@ use mathlib.Core.List.{List}
 use mathlib.Core.Logic.{_≢_}
 use lib.ListN.{length, getD, set}
 use lib.Dec.{leb}
-use Rattle.rules.specs.Geometry.{Geometry}
-use Rattle.rules.specs.Store.{Store, sizeOf}
-use Rattle.rules.specs.Blocks.{need}
-use Rattle.store.specs.Tables.{Shaped}
-use Rattle.rules.specs.Sound.{sound}
-use Rattle.store.specs.Plan.{Counted}
+use Rattle.rules.specs.Store.{Geometry, Store, sizeOf, need, sound, fitsPool}
 use Rattle.rules.specs.Edit.{within, firstSlot, slotCount}
+use Rattle.store.specs.Tables.{Shaped}
+use Rattle.store.specs.Plan.{Counted}
 use Rattle.store.specs.Bytes.{storeSlots}
 
 -- a sound store with its table of holders, one number for each block, and a file
@@ -25,11 +22,11 @@ pub record EditKnown (g : Geometry) (st : Store) (counts : List ℕ) (f : ℕ) :
 
 -- NOSPC is given exactly if used + owed of the store that the edit would leave exceed the pool; then nothing changes
 abbrev pub judged : Geometry → Store → Store → Store
-judged g st planned = cond (leb (need planned) (g .N)) planned st
+judged g st planned = cond (fitsPool (g .N) (planned .words)) planned st
 
 -- the answer is whether the edit was done; `planned` is the store that it would leave
 pub record EditPromise (g : Geometry) (st planned : Store) (done : Bool) (after : Store) (counts : List ℕ) : Type 0 where
-  pub answer : done ≡ leb (need planned) (g .N)
+  pub answer : done ≡ fitsPool (g .N) (planned .words)
   pub sizes-are : after .sizes ≡ judged g st planned .sizes
   pub words-are : after .words ≡ judged g st planned .words
   pub mem-is : after .mem ≡ judged g st planned .mem
@@ -64,6 +61,16 @@ pub record Finished (g : Geometry) (new : ℕ → ℕ) (first : ℕ) (olds news 
 -- a region of file f that is already cut at the size; it may be empty
 pub record CutKnown (g : Geometry) (st : Store) (counts : List ℕ) (f end : ℕ) : Type 0 where
   pub known : EditKnown g st counts f
+  pub cut : end ≤ sizeOf st f
+
+-- one that has a byte
+pub record CutRegion (g : Geometry) (st : Store) (counts : List ℕ) (f off end : ℕ) : Type 0 where
+  pub region : RegionKnown g st counts f off end
+  pub cut : end ≤ sizeOf st f
+
+-- its slots are the n from `first` on
+pub record CutSlots (g : Geometry) (st : Store) (counts : List ℕ) (f off end first n : ℕ) : Type 0 where
+  pub slots : SlotsKnown g st counts f off end first n
   pub cut : end ≤ sizeOf st f
 
 -- ---- CLONE

@@ -1,5 +1,5 @@
 -- The code's words for what a call is lent.
-use Rattle.rules.specs.Geometry.{Geometry}
+use Rattle.rules.specs.Store.{Geometry}
 use Rattle.store.specs.declared.geometry.Geometry as Code
 
 abbrev pub geometryOf : Code.Geometry → Geometry

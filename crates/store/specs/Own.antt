@@ -5,21 +5,16 @@ use mathlib.Core.Bool.{Bool, true, false, cond, _||_}
 use mathlib.Core.List.{List}
 use lib.ListN.{length, getD, set, take, drop}
 use Rattle.xdr.specs.Bytes.{splice}
-use Rattle.rules.specs.Geometry.{Geometry}
-use Rattle.rules.specs.Store.{isHole}
-use Rattle.rules.specs.Blocks.{isShared, lowestFree}
-use Rattle.rules.specs.Edit.{each, owned, own, ownUnless}
-use Rattle.rules.specs.Deallocate.{whole, giveBack}
+use Rattle.rules.specs.Lists.{each}
+use Rattle.rules.specs.Store.{Geometry, isHole, holeOrShared, lowestFree}
+use Rattle.rules.specs.Edit.{owned, givesBack}
+use Rattle.rules.proofs.Steps.{own, ownUnless, giveBack}
 use Rattle.store.specs.Plan.{Counted, Planned}
-
--- a slot with word w that is to have an unshared block takes one (`owned` of Edit)
-abbrev pub takes : List ℕ → ℕ → Bool
-takes ws w = isHole w || isShared ws w
 
 -- slot i, which is not skipped, takes a block, and none of n is free
 pub record NoneFree (skip : Bool) (ws : List ℕ) (i n : ℕ) : Type 0 where
   pub asked : skip ≡ false
-  pub wants : takes ws (getD ws i 0) ≡ true
+  pub wants : holeOrShared ws (getD ws i 0) ≡ true
   pub full : n ≤ lowestFree ws
 
 -- the words old stored from slot i on, the table still true
@@ -48,10 +43,10 @@ pub record WritePlanned (ws : List ℕ) (i n : ℕ) (done : Bool) (after counts 
   pub saved : old ≡ take n (drop i ws)
 
 -- slots that a DEALLOCATE gives back or leaves a hole (`stays` of Deallocate), by the old words of the slots from `first` on
-unfoldable pub staysBy : Geometry → ℕ → ℕ → ℕ → ℕ → List ℕ → ℕ → Bool
-staysBy g size off end first old k = whole g size off end k || isHole (getD old (k - first) 0)
+unfoldable pub skipsBy : Geometry → ℕ → ℕ → ℕ → ℕ → List ℕ → ℕ → Bool
+skipsBy g size off end first old k = givesBack g size off end k || isHole (getD old (k - first) 0)
 
 -- the plan of a DEALLOCATE over the n slots of a file from `first` on, with their old words
 pub record DeallocatePlanned (g : Geometry) (ws : List ℕ) (at first n size off end : ℕ) (done : Bool) (after counts old : List ℕ) : Type 0 where
-  pub planned : Planned ws (each (ownUnless (staysBy g size off end first old) at) (each (giveBack at (whole g size off end)) ws first n) first n) done after counts
+  pub planned : Planned ws (each (ownUnless (skipsBy g size off end first old) at) (each (giveBack at (givesBack g size off end)) ws first n) first n) done after counts
   pub saved : old ≡ take n (drop (at + first) ws)

@@ -5,8 +5,9 @@ use mathlib.Core.Bool.{Bool, cond}
 use mathlib.Core.List.{List}
 use lib.ListN.{length, set}
 use lib.Dec.{leb}
-use Rattle.rules.specs.Blocks.{used, owed}
-use Rattle.store.specs.Tables.{InPool, Tallied}
+use Rattle.rules.specs.Store.{used, owed, fitsPool}
+use Rattle.store.specs.Tables.{Tallied}
+use Rattle.rules.proofs.PlanLaws.{InPool}
 
 -- words whose blocks are in the pool, with a true table of holders
 pub record Counted (ws counts : List ℕ) : Type 0 where
@@ -18,10 +19,6 @@ pub record Counted (ws counts : List ℕ) : Type 0 where
 pub record Stored (ws : List ℕ) (i w : ℕ) (after counts : List ℕ) : Type 0 where
   pub words-are : after ≡ set ws i w
   pub counted : Counted after counts
-
--- used and owed blocks fit a pool of n
-abbrev pub fitsPool : ℕ → List ℕ → Bool
-fitsPool n ws = leb (used ws + owed ws) n
 
 -- the planned words where they fit the pool, else the words as they were; the table is true either way
 pub record Planned (ws planned : List ℕ) (done : Bool) (after counts : List ℕ) : Type 0 where

@@ -1,15 +1,15 @@
 -- What the functions that read a file ask of the lent tables, and what they leave.
 use Prim.Native.Nat.{ℕ, suc, _+_, _*_, _/_, _≤_, _<_}
 use mathlib.Core.Path.{_≡_}
-use mathlib.Core.Bool.{Bool, true, not}
-use mathlib.Core.List.{List}
+use mathlib.Core.Bool.{Bool, true, cond, not}
+use mathlib.Core.List.{List, [], _∷_}
 use lib.ListN.{length}
-use Rattle.xdr.specs.Encode.{concatMap}
+use Rattle.xdr.specs.Encode.{opaqueSize, concatMap}
 use Rattle.xdr.specs.Bytes.{Written}
-use Rattle.rules.specs.Geometry.{Geometry, goodGeometry}
-use Rattle.rules.specs.Store.{Store, isHole, wordOf}
-use Rattle.store.specs.Tables.{InPool}
-use Rattle.rules.specs.Read.{Piece, pieces, pieceBytes, pieceSize, piecesSize}
+use Rattle.rules.specs.Store.{Geometry, goodGeometry, Store, isHole, wordOf}
+use Rattle.rules.specs.Read.{Piece, pieces}
+use Rattle.rules.specs.Operation.{pieceBytes}
+use Rattle.rules.proofs.PlanLaws.{InPool}
 
 -- file f has a slot word for each place below `end`
 pub record Placed (g : Geometry) (ws : List ℕ) (f end : ℕ) : Type 0 where
@@ -48,6 +48,14 @@ pub record PieceEnds (g : Geometry) (ws : List ℕ) (f i end p : ℕ) : Type 0 w
 -- n bytes from place i on, as a piece
 abbrev pub pieceAt : Geometry → List ℕ → ℕ → ℕ → ℕ → Piece
 pieceAt g ws f i n = record { hole = holeIn g ws f i; start = i; size = n }
+
+-- how many bytes a piece is as it is answered
+abbrev pub pieceSize : Piece → ℕ
+pieceSize p = cond (p .hole) (4 + (8 + 8)) (4 + (8 + opaqueSize (p .size)))
+
+abbrev pub piecesSize : List Piece → ℕ
+piecesSize [] = 0
+piecesSize (p ∷ ps) = pieceSize p + piecesSize ps
 
 -- a piece of at least one byte, and room for it at place `at` of `len` bytes
 pub record PieceFits (g : Geometry) (ws m : List ℕ) (f i n at len : ℕ) : Type 0 where

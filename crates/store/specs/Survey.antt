@@ -3,10 +3,9 @@ use Prim.Native.Nat.{ℕ, _≤_}
 use mathlib.Core.Path.{_≡_}
 use mathlib.Core.List.{List}
 use lib.ListN.{length, replicate}
-use Rattle.rules.specs.Geometry.{Geometry}
-use Rattle.rules.specs.Store.{Store}
-use Rattle.store.specs.Tables.{Shaped, Tallied}
+use Rattle.rules.specs.Store.{Geometry, Store}
 use Rattle.rules.specs.Calls.{CountPromise}
+use Rattle.store.specs.Tables.{Shaped, Tallied}
 
 -- a zero for each block
 pub record TableReady (g : Geometry) (st : Store) (counts : List ℕ) : Type 0 where

@@ -4,18 +4,13 @@ use mathlib.Core.Path.{_≡_}
 use mathlib.Core.Bool.{true}
 use mathlib.Core.List.{List}
 use lib.ListN.{length, getD}
-use Rattle.rules.specs.Geometry.{Geometry, goodGeometry}
-use Rattle.rules.specs.Store.{Store, goodLengths}
-use Rattle.rules.specs.Blocks.{holders}
+use Rattle.rules.specs.Store.{Geometry, goodGeometry, Store, goodLengths, holders}
+use Rattle.rules.proofs.PlanLaws.{InPool}
 
 -- a good geometry, and tables of its lengths
 pub record Shaped (g : Geometry) (st : Store) : Type 0 where
   pub geometry : goodGeometry g ≡ true
   pub lengths : goodLengths g st ≡ true
-
--- every word names one of n blocks, or none
-abbrev pub InPool : ℕ → List ℕ → Type 0
-InPool n ws = (p : ℕ) → getD ws p 0 / 2 ≤ n
 
 -- tables of a good geometry whose words name blocks of the pool
 pub record Pooled (g : Geometry) (st : Store) : Type 0 where

@@ -6,7 +6,7 @@ use mathlib.Core.List.{List, [], _∷_}
 use lib.ListN.{length, getD, set, replicate}
 use lib.Dec.{ltb}
 use Rattle.rules.specs.Store.{isHole, isReserved}
-use Rattle.store.specs.Tables.{InPool}
+use Rattle.rules.proofs.PlanLaws.{InPool}
 
 -- the counts with one more for block k - 1; a hole's k is 0
 unfoldable pub noted : ℕ → List ℕ → List ℕ

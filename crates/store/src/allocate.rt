@@ -2,7 +2,7 @@
 ghost use Prim.Native.Nat.{_+_, _≤_};
 ghost use lib.ListN.{length};
 ghost use Rattle.store.specs.Lent.{geometryOf};
-ghost use Rattle.rules.specs.Allocate.{editAllocate};
+ghost use Rattle.rules.specs.Edit.{edited, allocating};
 ghost use Rattle.store.specs.Edits.{EditPromise, RegionKnown};
 use crate::edit_plans::plan_allocate;
 use crate::geometry::Geometry;
@@ -24,7 +24,7 @@ fn allocate_saving(
     requires { ⌜ RegionKnown (geometryOf g) (record { sizes = now sizes; words = now words; mem = now mem }) (now counts)
         f off (off + n) × (geometryOf g .S ≤ length (now saved)) ⌝ }
     ensures { λ r. ⌜ EditPromise (geometryOf g) (record { sizes = now (sizes .entry); words = now (words .entry); mem = now (mem .entry) })
-        (editAllocate (geometryOf g) (record { sizes = now (sizes .entry); words = now (words .entry); mem = now (mem .entry) }) f off (off + n))
+        (edited (geometryOf g) (record { sizes = now (sizes .entry); words = now (words .entry); mem = now (mem .entry) }) (allocating f off (off + n)))
         r (record { sizes = now (sizes .exit); words = now (words .exit); mem = now (mem .entry) }) (now (counts .exit)) ⌝ }
 {
     let end = off + n;
@@ -52,7 +52,7 @@ pub fn allocate_file(
     requires { ⌜ RegionKnown (geometryOf g) (record { sizes = now sizes; words = now words; mem = now mem }) (now counts)
         f off (off + n) ⌝ }
     ensures { λ r. ⌜ EditPromise (geometryOf g) (record { sizes = now (sizes .entry); words = now (words .entry); mem = now (mem .entry) })
-        (editAllocate (geometryOf g) (record { sizes = now (sizes .entry); words = now (words .entry); mem = now (mem .entry) }) f off (off + n))
+        (edited (geometryOf g) (record { sizes = now (sizes .entry); words = now (words .entry); mem = now (mem .entry) }) (allocating f off (off + n)))
         r (record { sizes = now (sizes .exit); words = now (words .exit); mem = now (mem .entry) }) (now (counts .exit)) ⌝ }
 {
     let mut saved = [0u32; 1024];

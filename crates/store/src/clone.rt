@@ -1,8 +1,8 @@
 // CLONE: the plan of the target's slots, and where the plan fits the pool the size. No byte of memory changes.
-ghost use Prim.Native.Nat.{_<_, _≤_};
+ghost use Prim.Native.Nat.{_<_, _≤_, _+_};
 ghost use lib.ListN.{length};
 ghost use Rattle.store.specs.Lent.{geometryOf};
-ghost use Rattle.rules.specs.Clone.{editClone};
+ghost use Rattle.rules.specs.Edit.{edited, cloning};
 ghost use Rattle.store.specs.Edits.{EditPromise, CloneKnown};
 use crate::edit_plans::plan_clone;
 use crate::geometry::Geometry;
@@ -25,7 +25,7 @@ fn clone_saving(
     requires { ⌜ CloneKnown (geometryOf g) (record { sizes = now sizes; words = now words; mem = now mem }) (now counts)
         s f soff off n × ((0 < n) × (geometryOf g .S ≤ length (now saved))) ⌝ }
     ensures { λ r. ⌜ EditPromise (geometryOf g) (record { sizes = now (sizes .entry); words = now (words .entry); mem = now (mem .entry) })
-        (editClone (geometryOf g) (record { sizes = now (sizes .entry); words = now (words .entry); mem = now (mem .entry) }) s f soff off n)
+        (edited (geometryOf g) (record { sizes = now (sizes .entry); words = now (words .entry); mem = now (mem .entry) }) (cloning f off (off + n) s soff))
         r (record { sizes = now (sizes .exit); words = now (words .exit); mem = now (mem .entry) }) (now (counts .exit)) ⌝ }
 {
     let from = s * g.slots + soff / g.block_size;
@@ -54,7 +54,7 @@ fn clone_some(
     requires { ⌜ CloneKnown (geometryOf g) (record { sizes = now sizes; words = now words; mem = now mem }) (now counts)
         s f soff off n × (0 < n) ⌝ }
     ensures { λ r. ⌜ EditPromise (geometryOf g) (record { sizes = now (sizes .entry); words = now (words .entry); mem = now (mem .entry) })
-        (editClone (geometryOf g) (record { sizes = now (sizes .entry); words = now (words .entry); mem = now (mem .entry) }) s f soff off n)
+        (edited (geometryOf g) (record { sizes = now (sizes .entry); words = now (words .entry); mem = now (mem .entry) }) (cloning f off (off + n) s soff))
         r (record { sizes = now (sizes .exit); words = now (words .exit); mem = now (mem .entry) }) (now (counts .exit)) ⌝ }
 {
     let mut saved = [0u32; 1024];
@@ -78,7 +78,7 @@ pub fn clone_file(
     requires { ⌜ CloneKnown (geometryOf g) (record { sizes = now sizes; words = now words; mem = now mem }) (now counts)
         s f soff off n ⌝ }
     ensures { λ r. ⌜ EditPromise (geometryOf g) (record { sizes = now (sizes .entry); words = now (words .entry); mem = now (mem .entry) })
-        (editClone (geometryOf g) (record { sizes = now (sizes .entry); words = now (words .entry); mem = now (mem .entry) }) s f soff off n)
+        (edited (geometryOf g) (record { sizes = now (sizes .entry); words = now (words .entry); mem = now (mem .entry) }) (cloning f off (off + n) s soff))
         r (record { sizes = now (sizes .exit); words = now (words .exit); mem = now (mem .entry) }) (now (counts .exit)) ⌝ }
 {
     if n == 0 {

@@ -2,8 +2,8 @@
 ghost use Prim.Native.Nat.{_+_, _-_, _<_, _≤_};
 ghost use lib.ListN.{length};
 ghost use Rattle.store.specs.Lent.{geometryOf};
-ghost use Rattle.rules.specs.Content.{byteAt};
-ghost use Rattle.rules.specs.Copy.{editCopy};
+ghost use Rattle.rules.specs.Store.{byteAt};
+ghost use Rattle.rules.specs.Edit.{edited, copying};
 ghost use Rattle.store.specs.Bytes.{AllCopies};
 ghost use Rattle.store.specs.Edits.{EditPromise, RegionKnown, SlotsKnown, SourceKnown, CopyKnown, Finished};
 use crate::copy_bytes::copy_range;
@@ -55,7 +55,7 @@ fn copy_planned(
     requires { ⌜ SlotsKnown (geometryOf g) (record { sizes = now sizes; words = now words; mem = now mem }) (now counts) f off (off + n) first (length (now old))
         × SourceKnown (geometryOf g) (record { sizes = now sizes; words = now words; mem = now mem }) s f soff n ⌝ }
     ensures { λ r. ⌜ EditPromise (geometryOf g) (record { sizes = now (sizes .entry); words = now (words .entry); mem = now (mem .entry) })
-        (editCopy (geometryOf g) (record { sizes = now (sizes .entry); words = now (words .entry); mem = now (mem .entry) }) s f soff off n)
+        (edited (geometryOf g) (record { sizes = now (sizes .entry); words = now (words .entry); mem = now (mem .entry) }) (copying f off (off + n) s soff))
         r (record { sizes = now (sizes .exit); words = now (words .exit); mem = now (mem .exit) }) (now (counts .exit)) ⌝ }
 {
     let i = f * g.slots + first;
@@ -87,7 +87,7 @@ fn copy_saving(
     requires { ⌜ RegionKnown (geometryOf g) (record { sizes = now sizes; words = now words; mem = now mem }) (now counts) f off (off + n)
         × (SourceKnown (geometryOf g) (record { sizes = now sizes; words = now words; mem = now mem }) s f soff n × (geometryOf g .S ≤ length (now saved))) ⌝ }
     ensures { λ r. ⌜ EditPromise (geometryOf g) (record { sizes = now (sizes .entry); words = now (words .entry); mem = now (mem .entry) })
-        (editCopy (geometryOf g) (record { sizes = now (sizes .entry); words = now (words .entry); mem = now (mem .entry) }) s f soff off n)
+        (edited (geometryOf g) (record { sizes = now (sizes .entry); words = now (words .entry); mem = now (mem .entry) }) (copying f off (off + n) s soff))
         r (record { sizes = now (sizes .exit); words = now (words .exit); mem = now (mem .exit) }) (now (counts .exit)) ⌝ }
 {
     let count = slot_count(g, off, off + n);
@@ -123,7 +123,7 @@ fn copy_some(
     requires { ⌜ RegionKnown (geometryOf g) (record { sizes = now sizes; words = now words; mem = now mem }) (now counts) f off (off + n)
         × SourceKnown (geometryOf g) (record { sizes = now sizes; words = now words; mem = now mem }) s f soff n ⌝ }
     ensures { λ r. ⌜ EditPromise (geometryOf g) (record { sizes = now (sizes .entry); words = now (words .entry); mem = now (mem .entry) })
-        (editCopy (geometryOf g) (record { sizes = now (sizes .entry); words = now (words .entry); mem = now (mem .entry) }) s f soff off n)
+        (edited (geometryOf g) (record { sizes = now (sizes .entry); words = now (words .entry); mem = now (mem .entry) }) (copying f off (off + n) s soff))
         r (record { sizes = now (sizes .exit); words = now (words .exit); mem = now (mem .exit) }) (now (counts .exit)) ⌝ }
 {
     let mut saved = [0u32; 1024];
@@ -146,7 +146,7 @@ pub fn copy_file(
 ) -> bool
     requires { ⌜ CopyKnown (geometryOf g) (record { sizes = now sizes; words = now words; mem = now mem }) (now counts) s f soff off n ⌝ }
     ensures { λ r. ⌜ EditPromise (geometryOf g) (record { sizes = now (sizes .entry); words = now (words .entry); mem = now (mem .entry) })
-        (editCopy (geometryOf g) (record { sizes = now (sizes .entry); words = now (words .entry); mem = now (mem .entry) }) s f soff off n)
+        (edited (geometryOf g) (record { sizes = now (sizes .entry); words = now (words .entry); mem = now (mem .entry) }) (copying f off (off + n) s soff))
         r (record { sizes = now (sizes .exit); words = now (words .exit); mem = now (mem .exit) }) (now (counts .exit)) ⌝ }
 {
     if n == 0 {

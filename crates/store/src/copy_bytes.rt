@@ -4,7 +4,7 @@ ghost use mathlib.Core.List.{List};
 ghost use Prim.Native.Nat.{ℕ, _+_, _-_};
 ghost use lib.ListN.{length};
 ghost use Rattle.store.specs.Lent.{geometryOf};
-ghost use Rattle.rules.specs.Content.{byteAt};
+ghost use Rattle.rules.specs.Store.{byteAt};
 ghost use Rattle.rules.specs.Edit.{within, storeSlot};
 ghost use Rattle.store.specs.Bytes.{SlotCopy, AllCopies, storeSlots};
 use crate::bytes::earlier;

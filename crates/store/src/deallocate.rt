@@ -2,8 +2,8 @@
 ghost use Prim.Native.Nat.{_≤_};
 ghost use lib.ListN.{length};
 ghost use Rattle.store.specs.Lent.{geometryOf};
-ghost use Rattle.rules.specs.Deallocate.{editDeallocate};
-ghost use Rattle.store.specs.Edits.{EditPromise, CutKnown, RegionKnown, SlotsKnown};
+ghost use Rattle.rules.specs.Edit.{edited, deallocating};
+ghost use Rattle.store.specs.Edits.{EditPromise, CutKnown, CutRegion, CutSlots};
 use crate::bytes::zero_edges;
 use crate::edit_plans::plan_deallocate;
 use crate::geometry::Geometry;
@@ -22,10 +22,10 @@ fn cut_range(
     end: usize,
     old: &mut [u32],
 ) -> bool
-    requires { ⌜ SlotsKnown (geometryOf g) (record { sizes = now sizes; words = now words; mem = now mem }) (now counts)
+    requires { ⌜ CutSlots (geometryOf g) (record { sizes = now sizes; words = now words; mem = now mem }) (now counts)
         f off end first (length (now old)) ⌝ }
     ensures { λ r. ⌜ EditPromise (geometryOf g) (record { sizes = now (sizes .entry); words = now (words .entry); mem = now (mem .entry) })
-        (editDeallocate (geometryOf g) (record { sizes = now (sizes .entry); words = now (words .entry); mem = now (mem .entry) }) f off end)
+        (edited (geometryOf g) (record { sizes = now (sizes .entry); words = now (words .entry); mem = now (mem .entry) }) (deallocating f off end))
         r (record { sizes = now (sizes .entry); words = now (words .exit); mem = now (mem .exit) }) (now (counts .exit)) ⌝ }
 {
     let at = f * g.slots;
@@ -52,10 +52,10 @@ fn cut_saving(
     end: usize,
     saved: &mut [u32],
 ) -> bool
-    requires { ⌜ RegionKnown (geometryOf g) (record { sizes = now sizes; words = now words; mem = now mem }) (now counts)
+    requires { ⌜ CutRegion (geometryOf g) (record { sizes = now sizes; words = now words; mem = now mem }) (now counts)
         f off end × (geometryOf g .S ≤ length (now saved)) ⌝ }
     ensures { λ r. ⌜ EditPromise (geometryOf g) (record { sizes = now (sizes .entry); words = now (words .entry); mem = now (mem .entry) })
-        (editDeallocate (geometryOf g) (record { sizes = now (sizes .entry); words = now (words .entry); mem = now (mem .entry) }) f off end)
+        (edited (geometryOf g) (record { sizes = now (sizes .entry); words = now (words .entry); mem = now (mem .entry) }) (deallocating f off end))
         r (record { sizes = now (sizes .entry); words = now (words .exit); mem = now (mem .exit) }) (now (counts .exit)) ⌝ }
 {
     let n = slot_count(g, off, end);
@@ -84,10 +84,10 @@ fn cut_some(
     off: usize,
     end: usize,
 ) -> bool
-    requires { ⌜ RegionKnown (geometryOf g) (record { sizes = now sizes; words = now words; mem = now mem }) (now counts)
+    requires { ⌜ CutRegion (geometryOf g) (record { sizes = now sizes; words = now words; mem = now mem }) (now counts)
         f off end ⌝ }
     ensures { λ r. ⌜ EditPromise (geometryOf g) (record { sizes = now (sizes .entry); words = now (words .entry); mem = now (mem .entry) })
-        (editDeallocate (geometryOf g) (record { sizes = now (sizes .entry); words = now (words .entry); mem = now (mem .entry) }) f off end)
+        (edited (geometryOf g) (record { sizes = now (sizes .entry); words = now (words .entry); mem = now (mem .entry) }) (deallocating f off end))
         r (record { sizes = now (sizes .entry); words = now (words .exit); mem = now (mem .exit) }) (now (counts .exit)) ⌝ }
 {
     let mut saved = [0u32; 1024];
@@ -108,7 +108,7 @@ pub fn deallocate_file(
 ) -> bool
     requires { ⌜ CutKnown (geometryOf g) (record { sizes = now sizes; words = now words; mem = now mem }) (now counts) f end ⌝ }
     ensures { λ r. ⌜ EditPromise (geometryOf g) (record { sizes = now (sizes .entry); words = now (words .entry); mem = now (mem .entry) })
-        (editDeallocate (geometryOf g) (record { sizes = now (sizes .entry); words = now (words .entry); mem = now (mem .entry) }) f off end)
+        (edited (geometryOf g) (record { sizes = now (sizes .entry); words = now (words .entry); mem = now (mem .entry) }) (deallocating f off end))
         r (record { sizes = now (sizes .entry); words = now (words .exit); mem = now (mem .exit) }) (now (counts .exit)) ⌝ }
 {
     if end <= off {

@@ -3,15 +3,13 @@ ghost use mathlib.Core.Path.{_≡_};
 ghost use mathlib.Core.Bool.{true, _||_};
 ghost use Prim.Native.Nat.{_+_, _<_, _≤_};
 ghost use lib.ListN.{length};
-ghost use Rattle.rules.specs.Geometry.{goodGeometry};
+ghost use Rattle.rules.specs.Lists.{each};
+ghost use Rattle.rules.specs.Store.{goodGeometry, isHole};
+ghost use Rattle.rules.specs.Edit.{givesBack};
+ghost use Rattle.rules.proofs.Steps.{reserve, share};
 ghost use Rattle.store.specs.Lent.{geometryOf};
-ghost use Rattle.rules.specs.Store.{isHole};
-ghost use Rattle.rules.specs.Edit.{each};
-ghost use Rattle.rules.specs.Allocate.{reserve};
-ghost use Rattle.rules.specs.Clone.{share};
-ghost use Rattle.rules.specs.Deallocate.{whole};
 ghost use Rattle.store.specs.Plan.{Counted, Planned};
-ghost use Rattle.store.specs.Own.{SlotOwned, RangeOwned, staysBy, DeallocatePlanned};
+ghost use Rattle.store.specs.Own.{SlotOwned, RangeOwned, skipsBy, DeallocatePlanned};
 use crate::geometry::Geometry;
 use crate::plan::own_slot;
 use crate::plan::save_words;
@@ -57,7 +55,7 @@ pub fn plan_clone(
     settle(words, counts, to, old)
 }
 
-// Gives slot i of the table, slot k of its file, an unshared block, unless it is whole or its old word w is a hole. Answers as own_slot.
+// Gives slot i of the table, slot k of its file, an unshared block, unless it is givesBack or its old word w is a hole. Answers as own_slot.
 fn own_edge(
     g: Geometry,
     words: &mut [u32],
@@ -70,7 +68,7 @@ fn own_edge(
     w: u32,
 ) -> bool
     requires { ⌜ Counted (now words) (now counts) × ((i < length (now words)) × ((goodGeometry (geometryOf g) ≡ true) × (k < g .slots))) ⌝ }
-    ensures { λ r. ⌜ SlotOwned (whole (geometryOf g) size off end k || isHole w) (now (words .entry)) (now (counts .entry)) i r (now (words .exit)) (now (counts .exit)) ⌝ }
+    ensures { λ r. ⌜ SlotOwned (givesBack (geometryOf g) size off end k || isHole w) (now (words .entry)) (now (counts .entry)) i r (now (words .exit)) (now (counts .exit)) ⌝ }
 {
     if slot_stays(g, w, size, off, end, k) {
         return true;
@@ -92,7 +90,7 @@ fn own_edges(
     old: &[u32],
 ) -> usize
     requires { ⌜ Counted (now words) (now counts) × ((at + first + n ≤ length (now words)) × ((goodGeometry (geometryOf g) ≡ true) × ((first + n ≤ g .slots) × (length (now old) ≡ n)))) ⌝ }
-    ensures { λ r. ⌜ RangeOwned (staysBy (geometryOf g) size off end first (now (old .entry))) (now (words .entry)) at first n r (now (words .exit)) (now (counts .exit)) ⌝ }
+    ensures { λ r. ⌜ RangeOwned (skipsBy (geometryOf g) size off end first (now (old .entry))) (now (words .entry)) at first n r (now (words .exit)) (now (counts .exit)) ⌝ }
 {
     let mut j = 0;
     while j < n {
@@ -105,7 +103,7 @@ fn own_edges(
     j
 }
 
-// Plans a DEALLOCATE over the n slots of a file from `first` on: gives back the whole ones, then gives the edges unshared blocks.
+// Plans a DEALLOCATE over the n slots of a file from `first` on: gives back the givesBack ones, then gives the edges unshared blocks.
 pub fn plan_deallocate(
     g: Geometry,
     words: &mut [u32],

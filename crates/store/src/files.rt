@@ -4,11 +4,9 @@ ghost use mathlib.Core.Bool.{_||_};
 ghost use Prim.Native.Nat.{_+_, _-_, _*_, _/_, _≤_};
 ghost use lib.ListN.{length, getD};
 ghost use lib.Dec.{eqb, ltb};
-ghost use Rattle.rules.specs.Count.{allTo};
+ghost use Rattle.rules.specs.Lists.{allTo};
+ghost use Rattle.rules.specs.Store.{wordOf, slotByte, soundFile};
 ghost use Rattle.store.specs.Lent.{geometryOf};
-ghost use Rattle.rules.specs.Store.{wordOf};
-ghost use Rattle.rules.specs.Content.{slotByte};
-ghost use Rattle.rules.specs.Sound.{soundFile};
 ghost use Rattle.store.specs.Tables.{Pooled, FileKnown};
 use crate::geometry::Geometry;
 

@@ -1,9 +1,8 @@
 // The geometry and the lengths of the lent tables.
 ghost use mathlib.Core.Path.{_≡_};
 ghost use mathlib.Core.Bool.{true};
-ghost use Rattle.rules.specs.Geometry.{goodGeometry, goodBlockSize};
+ghost use Rattle.rules.specs.Store.{goodGeometry, goodBlockSize, goodLengths};
 ghost use Rattle.store.specs.Lent.{geometryOf};
-ghost use Rattle.rules.specs.Store.{goodLengths};
 
 // Files, slots per file, blocks in the pool, bytes of a block.
 pub struct Geometry {

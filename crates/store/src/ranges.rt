@@ -3,13 +3,11 @@ ghost use mathlib.Core.Path.{_≡_};
 ghost use mathlib.Core.Bool.{true, _||_};
 ghost use Prim.Native.Nat.{_+_, _<_, _≤_};
 ghost use lib.ListN.{length};
-ghost use Rattle.rules.specs.Geometry.{goodGeometry};
+ghost use Rattle.rules.specs.Lists.{each};
+ghost use Rattle.rules.specs.Store.{goodGeometry, isHole};
+ghost use Rattle.rules.specs.Edit.{givesBack};
+ghost use Rattle.rules.proofs.Steps.{reserve, share, giveBack};
 ghost use Rattle.store.specs.Lent.{geometryOf};
-ghost use Rattle.rules.specs.Store.{isHole};
-ghost use Rattle.rules.specs.Edit.{each};
-ghost use Rattle.rules.specs.Allocate.{reserve};
-ghost use Rattle.rules.specs.Clone.{share};
-ghost use Rattle.rules.specs.Deallocate.{whole, giveBack};
 ghost use Rattle.store.specs.Plan.{Counted};
 ghost use Rattle.store.specs.Ranges.{RangeDone};
 use crate::geometry::Geometry;
@@ -44,7 +42,7 @@ pub fn share_range(words: &mut [u32], counts: &mut [u32], from: usize, to: usize
 // Whether the bytes of slot k below the size, at least one, all lie in the region.
 pub fn slot_whole(g: Geometry, size: usize, off: usize, end: usize, k: usize) -> bool
     requires { ⌜ (goodGeometry (geometryOf g) ≡ true) × (k < g .slots) ⌝ }
-    ensures { λ r. ⌜ r ≡ whole (geometryOf g) size off end k ⌝ }
+    ensures { λ r. ⌜ r ≡ givesBack (geometryOf g) size off end k ⌝ }
 {
     let start = k * g.block_size;
     if start < off {
@@ -59,7 +57,7 @@ pub fn slot_whole(g: Geometry, size: usize, off: usize, end: usize, k: usize) ->
     start + g.block_size <= end
 }
 
-// Word 0 where slot k is whole. `at` is the index of the file's slot 0.
+// Word 0 where slot k is givesBack. `at` is the index of the file's slot 0.
 fn give_back_slot(
     g: Geometry,
     words: &mut [u32],
@@ -71,7 +69,7 @@ fn give_back_slot(
     end: usize,
 )
     requires { ⌜ Counted (now words) (now counts) × ((at + k < length (now words)) × ((goodGeometry (geometryOf g) ≡ true) × (k < g .slots))) ⌝ }
-    ensures { λ _. ⌜ RangeDone (giveBack at (whole (geometryOf g) size off end) (now (words .entry)) k) (now (words .exit)) (now (counts .exit)) ⌝ }
+    ensures { λ _. ⌜ RangeDone (giveBack at (givesBack (geometryOf g) size off end) (now (words .entry)) k) (now (words .exit)) (now (counts .exit)) ⌝ }
 {
     if !slot_whole(g, size, off, end, k) {
         return;
@@ -79,7 +77,7 @@ fn give_back_slot(
     set_word(words, counts, at + k, 0);
 }
 
-// Word 0 where a slot is whole, over n slots of a file, from its slot `first` on.
+// Word 0 where a slot is givesBack, over n slots of a file, from its slot `first` on.
 pub fn give_back_range(
     g: Geometry,
     words: &mut [u32],
@@ -92,7 +90,7 @@ pub fn give_back_range(
     end: usize,
 )
     requires { ⌜ Counted (now words) (now counts) × ((at + first + n ≤ length (now words)) × ((goodGeometry (geometryOf g) ≡ true) × (first + n ≤ g .slots))) ⌝ }
-    ensures { λ _. ⌜ RangeDone (each (giveBack at (whole (geometryOf g) size off end)) (now (words .entry)) first n) (now (words .exit)) (now (counts .exit)) ⌝ }
+    ensures { λ _. ⌜ RangeDone (each (giveBack at (givesBack (geometryOf g) size off end)) (now (words .entry)) first n) (now (words .exit)) (now (counts .exit)) ⌝ }
 {
     let last = first + n;
     let mut k = first;
@@ -102,10 +100,10 @@ pub fn give_back_range(
     }
 }
 
-// Whether slot k, whose word was w, keeps no block of its own: it is whole, or a hole.
+// Whether slot k, whose word was w, keeps no block of its own: it is givesBack, or a hole.
 pub fn slot_stays(g: Geometry, w: u32, size: usize, off: usize, end: usize, k: usize) -> bool
     requires { ⌜ (goodGeometry (geometryOf g) ≡ true) × (k < g .slots) ⌝ }
-    ensures { λ r. ⌜ r ≡ (whole (geometryOf g) size off end k || isHole w) ⌝ }
+    ensures { λ r. ⌜ r ≡ (givesBack (geometryOf g) size off end k || isHole w) ⌝ }
 {
     if slot_whole(g, size, off, end, k) {
         return true;

@@ -5,7 +5,7 @@ ghost use Prim.Native.Nat.{ℕ, _+_, _/_, _<_};
 ghost use lib.ListN.{getD};
 ghost use Rattle.store.specs.Lent.{geometryOf};
 ghost use Rattle.rules.specs.Store.{wordOf};
-ghost use Rattle.rules.specs.Seek.{seekPlace};
+ghost use Rattle.rules.specs.Read.{seekPlace};
 ghost use Rattle.store.specs.ReadCode.{Placed, PieceEnds, holeIn};
 use crate::geometry::Geometry;
 

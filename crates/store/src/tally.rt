@@ -3,9 +3,10 @@ ghost use mathlib.Core.Path.{_≡_};
 ghost use Prim.Native.Nat.{ℕ, _/_, _<_, _≤_};
 ghost use lib.ListN.{length, getD};
 ghost use lib.Dec.{leb, ltb};
-ghost use Rattle.rules.specs.Count.{allTo, bit, count};
-ghost use Rattle.store.specs.Tables.{InPool, Tallied};
+ghost use Rattle.rules.specs.Lists.{allTo, bit, count};
+ghost use Rattle.store.specs.Tables.{Tallied};
 ghost use Rattle.store.specs.Tally.{noted, Untallied, takesBy, owesBy, firstZero};
+ghost use Rattle.rules.proofs.PlanLaws.{InPool};
 
 // Whether every word names one of the blocks, or none.
 pub fn words_formed(words: &[u32], blocks: usize) -> bool

@@ -3,10 +3,9 @@ ghost use mathlib.Core.Path.{_≡_};
 ghost use mathlib.Core.Bool.{true};
 ghost use Prim.Native.Nat.{max, _+_, _-_, _*_, _^_, _<_, _≤_};
 ghost use lib.ListN.{length, getD, set};
-ghost use Rattle.rules.specs.Geometry.{goodGeometry};
+ghost use Rattle.rules.specs.Store.{goodGeometry};
+ghost use Rattle.rules.specs.Edit.{slotCount, edited, writing};
 ghost use Rattle.store.specs.Lent.{geometryOf};
-ghost use Rattle.rules.specs.Edit.{slotCount};
-ghost use Rattle.rules.specs.Write.{editWrite};
 ghost use Rattle.store.specs.Bytes.{AllTouched};
 ghost use Rattle.store.specs.Edits.{EditPromise, WriteKnown, RegionKnown, SlotsKnown, Finished};
 use crate::bytes::write_slots;
@@ -71,8 +70,7 @@ fn write_range(
     requires { ⌜ SlotsKnown (geometryOf g) (record { sizes = now sizes; words = now words; mem = now mem }) (now counts)
         f off (off + length (now d)) first (length (now old)) ⌝ }
     ensures { λ r. ⌜ EditPromise (geometryOf g) (record { sizes = now (sizes .entry); words = now (words .entry); mem = now (mem .entry) })
-        (editWrite (geometryOf g) (record { sizes = now (sizes .entry); words = now (words .entry); mem = now (mem .entry) })
-        f off (off + length (now (d .entry))) (λ p. getD (now (d .entry)) (p - off) 0))
+        (edited (geometryOf g) (record { sizes = now (sizes .entry); words = now (words .entry); mem = now (mem .entry) }) (writing f off (off + length (now (d .entry))) (λ p. getD (now (d .entry)) (p - off) 0)))
         r (record { sizes = now (sizes .exit); words = now (words .exit); mem = now (mem .exit) }) (now (counts .exit)) ⌝ }
 {
     let i = f * g.slots + first;
@@ -100,8 +98,7 @@ fn write_saving(
     requires { ⌜ RegionKnown (geometryOf g) (record { sizes = now sizes; words = now words; mem = now mem }) (now counts)
         f off (off + length (now d)) × (geometryOf g .S ≤ length (now saved)) ⌝ }
     ensures { λ r. ⌜ EditPromise (geometryOf g) (record { sizes = now (sizes .entry); words = now (words .entry); mem = now (mem .entry) })
-        (editWrite (geometryOf g) (record { sizes = now (sizes .entry); words = now (words .entry); mem = now (mem .entry) })
-        f off (off + length (now (d .entry))) (λ p. getD (now (d .entry)) (p - off) 0))
+        (edited (geometryOf g) (record { sizes = now (sizes .entry); words = now (words .entry); mem = now (mem .entry) }) (writing f off (off + length (now (d .entry))) (λ p. getD (now (d .entry)) (p - off) 0)))
         r (record { sizes = now (sizes .exit); words = now (words .exit); mem = now (mem .exit) }) (now (counts .exit)) ⌝ }
 {
     let n = slot_count(g, off, off + d.len());
@@ -133,8 +130,7 @@ fn write_some(
     requires { ⌜ RegionKnown (geometryOf g) (record { sizes = now sizes; words = now words; mem = now mem }) (now counts)
         f off (off + length (now d)) ⌝ }
     ensures { λ r. ⌜ EditPromise (geometryOf g) (record { sizes = now (sizes .entry); words = now (words .entry); mem = now (mem .entry) })
-        (editWrite (geometryOf g) (record { sizes = now (sizes .entry); words = now (words .entry); mem = now (mem .entry) })
-        f off (off + length (now (d .entry))) (λ p. getD (now (d .entry)) (p - off) 0))
+        (edited (geometryOf g) (record { sizes = now (sizes .entry); words = now (words .entry); mem = now (mem .entry) }) (writing f off (off + length (now (d .entry))) (λ p. getD (now (d .entry)) (p - off) 0)))
         r (record { sizes = now (sizes .exit); words = now (words .exit); mem = now (mem .exit) }) (now (counts .exit)) ⌝ }
 {
     let mut saved = [0u32; 1024];
@@ -156,8 +152,7 @@ pub fn write_file(
     requires { ⌜ WriteKnown (geometryOf g) (record { sizes = now sizes; words = now words; mem = now mem }) (now counts)
         f off (length (now d)) ⌝ }
     ensures { λ r. ⌜ EditPromise (geometryOf g) (record { sizes = now (sizes .entry); words = now (words .entry); mem = now (mem .entry) })
-        (editWrite (geometryOf g) (record { sizes = now (sizes .entry); words = now (words .entry); mem = now (mem .entry) })
-        f off (off + length (now (d .entry))) (λ p. getD (now (d .entry)) (p - off) 0))
+        (edited (geometryOf g) (record { sizes = now (sizes .entry); words = now (words .entry); mem = now (mem .entry) }) (writing f off (off + length (now (d .entry))) (λ p. getD (now (d .entry)) (p - off) 0)))
         r (record { sizes = now (sizes .exit); words = now (words .exit); mem = now (mem .exit) }) (now (counts .exit)) ⌝ }
 {
     if d.len() == 0 {

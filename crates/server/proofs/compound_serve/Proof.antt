@@ -1,5 +1,5 @@
 use borrow.Author.Needs.{needs}
-use Rattle.server.proofs.CallLaws.{answered}
+use Rattle.server.proofs.ExportLaws.{answered}
 use Rattle.server.proofs.compound_serve.Statement.{statement}
 use Rattle.server.proofs.compound_serve.Tie as tie
 

@@ -1,5 +1,5 @@
 use borrow.Author.Needs.{needs}
-use Rattle.server.proofs.CallLaws.{counted}
+use Rattle.server.proofs.ExportLaws.{counted}
 use Rattle.server.proofs.store_count_blocks.Statement.{statement}
 use Rattle.server.proofs.store_count_blocks.Tie as tie
 

@@ -1,5 +1,5 @@
 use borrow.Author.Needs.{needs}
-use Rattle.server.proofs.CallLaws.{made}
+use Rattle.server.proofs.ExportLaws.{made}
 use Rattle.server.proofs.store_make_empty.Statement.{statement}
 use Rattle.server.proofs.store_make_empty.Tie as tie
 

@@ -1,5 +1,5 @@
 use borrow.Author.Needs.{needs}
-use Rattle.server.proofs.CallLaws.{judged}
+use Rattle.server.proofs.ExportLaws.{judged}
 use Rattle.server.proofs.store_soundness.Statement.{statement}
 use Rattle.server.proofs.store_soundness.Tie as tie
 

@@ -1,5 +1,5 @@
 use mathlib.Core.Path.{refl, ap}
-use Rattle.rules.specs.Run.{body}
+use Rattle.rules.specs.Run.{body, does}
 use Rattle.compound.specs.Runner.{fileIn}
 use Rattle.compound.proofs.RunLaws.{edit-known}
 use Rattle.compound.proofs.EditOps.{deallocate-on, unopened, opened-plain}
@@ -48,7 +48,7 @@ same-length-5 : tie.Need-same-length-5
 same-length-5 c = search needs
 
 returns-2 : tie.Need-returns-2
-unfolding body
+unfolding body does
 returns-2 c =
     let w = c .before .before in
     let k = w .before .before .before .before .before .before .before .before in

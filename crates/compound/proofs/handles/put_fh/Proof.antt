@@ -4,9 +4,8 @@ use native.Mathlib.Omega.{arith}
 use Rattle.xdr.specs.Bytes.{partOf}
 use Rattle.xdr.specs.Answers.{ofWord}
 use Rattle.compound.specs.declared.answer.Handle.{Handle}
-use Rattle.rules.specs.Status.{STALE, BADHANDLE}
-use Rattle.rules.specs.Operation.{PUTFH}
-use Rattle.rules.specs.Run.{effect, body}
+use Rattle.rules.specs.Operation.{STALE, BADHANDLE, PUTFH}
+use Rattle.rules.specs.Run.{effect, body, does}
 use Rattle.compound.specs.Runner.{stateOf}
 use Rattle.compound.proofs.HandleOps.{refused-answer, moved-answer, bad-length, no-fault, spelled, stale, file-there}
 use borrow.Author.Needs.{needs}
@@ -93,7 +92,7 @@ same-length-4 : tie.Need-same-length-4
 same-length-4 c = search needs
 
 returns-4 : tie.Need-returns-4
-unfolding effect body
+unfolding effect body does
 returns-4 c =
     let w = c .before .before in
     let i = w .before .before in

@@ -22,7 +22,7 @@ returns c =
     let n = c .before .before in
     let t = n .before .before .before .before in
     let s = t .before .before .before .before in
-    written-sized (omega arith) (written-then (omega arith) (written-then (omega arith) (s .put-u32 .ensures) (t .put-opaque .ensures)) (n .put-u322 .ensures))
+    written-sized (omega arith) (written-then (omega arith) (s .put-u32 .ensures) (written-then (omega arith) (t .put-opaque .ensures) (n .put-u322 .ensures)))
 
 pub put-head-spec : {M : Type 1} → statement M
 put-head-spec =

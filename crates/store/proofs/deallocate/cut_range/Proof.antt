@@ -9,32 +9,32 @@ use Rattle.store.proofs.deallocate.cut_range.Tie as tie
 mul-at : tie.Need-mul-at
 mul-at c =
     let s = c .before .before .before .before .before .before in
-    omega (arith, slots-inside (s .pre))
+    omega (arith, slots-inside (s .pre .slots))
 
 add-i : tie.Need-add-i
 add-i c =
     let s = c .before .before .before .before .before .before in
-    omega (arith, slots-inside (s .pre))
+    omega (arith, slots-inside (s .pre .slots))
 
 add-last : tie.Need-add-last
 add-last c =
     let s = c .before .before .before .before .before .before in
-    omega (arith, slots-inside (s .pre))
+    omega (arith, slots-inside (s .pre .slots))
 
 mul-size : tie.Need-mul-size
 mul-size c =
     let s = c .before .before .before .before .before .before in
-    omega (arith, file-inside (s .pre))
+    omega (arith, file-inside (s .pre .slots))
 
 shared-slice-read-size : tie.Need-shared-slice-read-size
 shared-slice-read-size c =
     let s = c .before .before .before .before .before .before .before in
-    file-inside (s .pre)
+    file-inside (s .pre .slots)
 
 plan-deallocate-requires : tie.Need-plan-deallocate-requires
 plan-deallocate-requires c κs =
     let s = c .before .before .before .before .before .before .before .before .before .before in
-    let k = s .pre in
+    let k = s .pre .slots in
     (k .region .known .counted, (slots-inside k, (k .region .known .shaped .geometry, (omega (arith, region-room (k .region) .slots, k .first-is, k .count-is), refl))))
 
 same-length : tie.Need-same-length
@@ -55,7 +55,7 @@ returns c =
 mul-zero-edges : tie.Need-mul-zero-edges
 mul-zero-edges c =
     let s = c .before .before .before .before .before .before .before .before .before .before .before .before .before .before .before .before .before .before .before .before in
-    omega (arith, slots-inside (s .pre))
+    omega (arith, slots-inside (s .pre .slots))
 
 sub-zero-edges : tie.Need-sub-zero-edges
 sub-zero-edges c = search needs
@@ -67,7 +67,7 @@ part-zero-edges-end : tie.Need-part-zero-edges-end
 part-zero-edges-end c =
     let k = c .before .before .before .before .before .before .before .before .before .before in
     let s = k .before .before .before .before .before .before .before .before .before .before .before in
-    omega (arith, slots-inside (s .pre), k .plan-deallocate .kept .1 .0)
+    omega (arith, slots-inside (s .pre .slots), k .plan-deallocate .kept .1 .0)
 
 zero-edges-requires : tie.Need-zero-edges-requires
 zero-edges-requires c κs =

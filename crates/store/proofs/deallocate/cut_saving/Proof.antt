@@ -11,25 +11,25 @@ slot-count-requires c κs = search needs
 div-cut-range : tie.Need-div-cut-range
 div-cut-range c =
     let s = c .before .before .before .before .before .before .before .before .before .before in
-    omega (arith, region-room (s .pre .0))
+    omega (arith, region-room (s .pre .0 .region))
 
 slice-relend-prefix-cut-range : tie.Need-slice-relend-prefix-cut-range
 slice-relend-prefix-cut-range c =
     let k = c .before .before .before .before in
     let s = k .before .before .before .before .before .before in
-    saved-room (s .pre .0) (k .slot-count .ensures) (s .pre .1)
+    saved-room (s .pre .0 .region) (k .slot-count .ensures) (s .pre .1)
 
 slice-aggregate-cut-range : tie.Need-slice-aggregate-cut-range
 slice-aggregate-cut-range c =
     let k = c .before .before .before .before .before in
     let s = k .before .before .before .before .before .before in
-    sym (saved-long (s .pre .0) (k .slot-count .ensures) _ (s .pre .1))
+    sym (saved-long (s .pre .0 .region) (k .slot-count .ensures) _ (s .pre .1))
 
 cut-range-requires : tie.Need-cut-range-requires
 cut-range-requires c κs =
     let k = c .before .before .before .before .before in
     let s = k .before .before .before .before .before .before in
-    saved-slots (s .pre .0) (k .slot-count .ensures) _ (s .pre .1)
+    record { slots = saved-slots (s .pre .0 .region) (k .slot-count .ensures) _ (s .pre .1); cut = s .pre .0 .cut }
 
 same-length : tie.Need-same-length
 same-length c = search needs

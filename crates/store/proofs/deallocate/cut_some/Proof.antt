@@ -9,7 +9,7 @@ slice-aggregate-cut-saving c = search needs
 cut-saving-requires : tie.Need-cut-saving-requires
 cut-saving-requires c κs =
     let s = c .before .before .before .before .before .before .before .before in
-    (s .pre, region-room (s .pre) .slots-most)
+    (s .pre, region-room (s .pre .region) .slots-most)
 
 same-length : tie.Need-same-length
 same-length c = search needs

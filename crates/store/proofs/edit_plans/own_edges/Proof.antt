@@ -4,14 +4,14 @@ use native.Mathlib.Omega.{arith}
 use borrow.Author.Tests.{not-true, not-false}
 use borrow.Author.Needs.{needs}
 use Rattle.store.specs.Lent.{geometryOf}
-use Rattle.store.specs.Own.{staysBy}
+use Rattle.store.specs.Own.{skipsBy}
 use Rattle.store.proofs.OwnLaws.{Owning, own-turn, own-stop, own-end}
 use Rattle.store.proofs.SettleLaws.{slot-edge}
 use Rattle.store.proofs.edit_plans.own_edges.Statement.{statement}
 use Rattle.store.proofs.edit_plans.own_edges.Tie as tie
 
 abbrev Inv-loop : tie.InvT-loop
-Inv-loop g words₀ counts₀ at first n size off end old j₀ words counts j = Owning (staysBy (geometryOf g) size off end first old) words₀ counts₀ at first n words counts j
+Inv-loop g words₀ counts₀ at first n size off end old j₀ words counts j = Owning (skipsBy (geometryOf g) size off end first old) words₀ counts₀ at first n words counts j
 
 abbrev μ-loop : tie.MeasureT-loop
 μ-loop g words₀ counts₀ at first n size off end old j₀ words counts j = n - j

@@ -1,5 +1,5 @@
 use borrow.Author.Tests.{ne-eqb}
-use Rattle.rules.specs.Geometry.{goodBlockSize}
+use Rattle.rules.specs.Store.{goodBlockSize}
 use Rattle.store.proofs.geometry.block_size_good.Statement.{statement}
 use Rattle.store.proofs.geometry.block_size_good.Tie as tie
 

@@ -2,15 +2,16 @@ use Prim.Native.Nat.{_-_}
 use mathlib.Core.Path.{refl}
 use native.Mathlib.Omega.{arith}
 use Rattle.store.specs.Lent.{geometryOf}
-use Rattle.rules.specs.Edit.{each}
-use Rattle.rules.specs.Deallocate.{whole, giveBack}
+use Rattle.rules.specs.Lists.{each}
+use Rattle.rules.specs.Edit.{givesBack}
+use Rattle.rules.proofs.Steps.{giveBack}
 use Rattle.store.proofs.RangeLaws.{Ranging, range-start, range-turn, range-end}
 use Rattle.store.proofs.ranges.give_back_range.Statement.{statement}
 use Rattle.store.proofs.ranges.give_back_range.Tie as tie
 
 abbrev Inv-loop : tie.InvT-loop
 Inv-loop g words₀ counts₀ at first n size off end last k₀ words counts k =
-    Ranging (giveBack at (whole (geometryOf g) size off end)) (each (giveBack at (whole (geometryOf g) size off end)) words₀ first n) last words₀ counts₀ words counts k
+    Ranging (giveBack at (givesBack (geometryOf g) size off end)) (each (giveBack at (givesBack (geometryOf g) size off end)) words₀ first n) last words₀ counts₀ words counts k
 
 abbrev μ-loop : tie.MeasureT-loop
 μ-loop g words₀ counts₀ at first n size off end last k₀ words counts k = last - k

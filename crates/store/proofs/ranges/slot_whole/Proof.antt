@@ -2,7 +2,7 @@ use Prim.Native.Nat.{_+_, _*_, min}
 use native.Mathlib.Omega.{arith}
 use borrow.Author.Tests.{le-leb, lt-leb, lt-ltb, le-ltb}
 use Rattle.store.specs.Lent.{geometryOf}
-use Rattle.rules.specs.Deallocate.{whole}
+use Rattle.rules.specs.Edit.{givesBack}
 use Rattle.store.proofs.RangeLaws.{slot-most, end-of-two}
 use Rattle.store.proofs.ranges.slot_whole.Statement.{statement}
 use Rattle.store.proofs.ranges.slot_whole.Tie as tie
@@ -11,21 +11,21 @@ mul-start : tie.Need-mul-start
 mul-start c = let s = c .before in omega (arith, slot-most (geometryOf (s .args .g)) (s .args .k) (s .pre .0) (s .pre .1))
 
 returns : tie.Need-returns
-unfolding whole
+unfolding givesBack
 returns c =
     let a = c .before .before .args in
     let s = a .k * a .g .«block_size» in
     rw (lt-leb (a .off) s (c .if1 .taken))
 
 returns-2 : tie.Need-returns-2
-unfolding whole
+unfolding givesBack
 returns-2 c =
     let a = c .before .before .before .args in
     let s = a .k * a .g .«block_size» in
     rw (le-leb (a .off) s (c .before .if1 .left), le-ltb s (a .size) (c .if2 .taken))
 
 returns-3 : tie.Need-returns-3
-unfolding whole
+unfolding givesBack
 returns-3 c =
     let a = c .before .before .before .before .args in
     let s = a .k * a .g .«block_size» in
@@ -35,7 +35,7 @@ add-result : tie.Need-add-result
 add-result c = let s = c .before .before .before .before .before in omega (arith, slot-most (geometryOf (s .args .g)) (s .args .k) (s .pre .0) (s .pre .1))
 
 returns-4 : tie.Need-returns-4
-unfolding whole
+unfolding givesBack
 returns-4 c =
     let a = c .before .before .before .before .before .args in
     let s = a .k * a .g .«block_size» in

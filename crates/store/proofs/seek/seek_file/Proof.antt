@@ -5,7 +5,7 @@ use native.Mathlib.Nat.{div-le-self, div-mul-le-self}
 use native.Mathlib.Omega.{arith}
 use borrow.Author.Needs.{needs}
 use lib.ListN.{getD}
-use Rattle.rules.specs.Seek.{seekPlace}
+use Rattle.rules.specs.Read.{seekPlace}
 use Rattle.store.specs.Lent.{geometryOf}
 use Rattle.rules.proofs.GeometryLaws.{good, file-most}
 use Rattle.rules.proofs.ReadLaws.{slot-end}

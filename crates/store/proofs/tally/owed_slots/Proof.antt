@@ -4,7 +4,7 @@ use native.Mathlib.Numerals.{add-one}
 use native.Mathlib.Omega.{arith}
 use lib.ListN.{length, drop}
 use borrow.Author.Needs.{needs}
-use Rattle.rules.specs.Count.{count}
+use Rattle.rules.specs.Lists.{count}
 use Rattle.store.specs.Tally.{owesBy}
 use Rattle.rules.proofs.CountLaws.{count-drop, count-end}
 use Rattle.store.proofs.TallyLaws.{count-most}

@@ -4,7 +4,7 @@ use mathlib.Core.List.{List}
 use native.Mathlib.Omega.{arith}
 use lib.ListN.{length, drop, getD, getD-replicate}
 use borrow.Author.Needs.{needs}
-use Rattle.rules.specs.Blocks.{holds, holders}
+use Rattle.rules.specs.Store.{holds, holders}
 use Rattle.rules.proofs.CountLaws.{count-end}
 use Rattle.store.proofs.TallyLaws.{count-most, noted-turn}
 use Rattle.store.proofs.tally.tally.Statement.{statement}

@@ -5,7 +5,7 @@ use native.Mathlib.Omega.{arith}
 use lib.ListN.{length, drop}
 use lib.Dec.{ltb}
 use borrow.Author.Needs.{needs}
-use Rattle.rules.specs.Count.{count}
+use Rattle.rules.specs.Lists.{count}
 use Rattle.rules.proofs.CountLaws.{count-drop, count-end}
 use Rattle.store.proofs.TallyLaws.{count-most}
 use Rattle.store.proofs.tally.used_blocks.Statement.{statement}

@@ -7,7 +7,7 @@ use lib.ListN.{length, getD}
 use lib.Dec.{leb}
 use borrow.Author.Needs.{needs}
 use borrow.Author.Tests.{le-leb, lt-leb}
-use Rattle.rules.specs.Count.{allTo}
+use Rattle.rules.specs.Lists.{allTo}
 use Rattle.rules.proofs.BoolLaws.{and-both}
 use Rattle.store.proofs.TallyLaws.{allTo-fails}
 use Rattle.store.proofs.tally.words_formed.Statement.{statement}

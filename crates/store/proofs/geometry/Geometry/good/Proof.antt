@@ -1,6 +1,6 @@
 use native.Mathlib.Omega.{arith}
 use borrow.Author.Tests.{lt-ltb, le-ltb, le-leb, lt-leb}
-use Rattle.rules.specs.Geometry.{goodGeometry}
+use Rattle.rules.specs.Store.{goodGeometry}
 use borrow.Author.Needs.{needs}
 use Rattle.store.proofs.geometry.Geometry.good.Statement.{statement}
 use Rattle.store.proofs.geometry.Geometry.good.Tie as tie

@@ -2,10 +2,8 @@
 use Prim.Native.Nat.{ℕ}
 use mathlib.Core.Path.{_≡_}
 use mathlib.Core.List.{List, [], _∷_}
-use Rattle.rules.specs.Geometry.{Geometry}
-use Rattle.rules.specs.Store.{Store}
-use Rattle.rules.specs.Calls.{storeRefusal, usedCount, owedCount}
-use Rattle.rules.specs.Claim.{Call, answer}
+use Rattle.rules.specs.Store.{Geometry, Store}
+use Rattle.rules.specs.Calls.{storeRefusal, usedCount, owedCount, Call, answer}
 
 -- used and owed blocks (document 01, "The store"): zero on a refusal
 pub record CountsPromise (g : Geometry) (st : Store) (number : ℕ) (counts : List ℕ) : Type 0 where

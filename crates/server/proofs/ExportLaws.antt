@@ -3,12 +3,10 @@ use Prim.Native.Nat.{ℕ}
 use mathlib.Core.Path.{_≡_, ap, subst, _∙_}
 use mathlib.Core.List.{List, [], _∷_}
 use lib.ListN.{getD}
-use Rattle.rules.specs.Geometry.{Geometry}
-use Rattle.rules.specs.Store.{Store}
-use Rattle.rules.specs.Calls.{MakePromise, storeRefusal, CountPromise}
-use Rattle.rules.specs.Serve.{Outcome}
-use Rattle.rules.specs.Claim.{Call, Contract}
-use Rattle.server.specs.Calls.{CountsPromise, ServePromise}
+use Rattle.rules.specs.Store.{Geometry, Store}
+use Rattle.rules.specs.Calls.{MakePromise, storeRefusal, CountPromise, Outcome, Call, Contract}
+use Rattle.rules.specs.Run.{config}
+use Rattle.server.specs.Exports.{CountsPromise, ServePromise}
 
 two : (a b x y : ℕ) → a ≡ x → b ≡ y → a ∷ b ∷ [] ≡ x ∷ y ∷ []
 two a b x y e f = rw (e, f)
@@ -24,11 +22,11 @@ counted g h st n u o e p =
     let q = subst (λ (k : Geometry). CountPromise k st n u o) e p in
     record { number-is = q .number-is; counts-are = two _ _ _ _ (q .used-is) (q .owed-is) }
 
-pub answered : (g h : Geometry) (v s buf : List ℕ) (st : Store) (o : Outcome) → g ≡ h
-    → Contract (record { geometry = g; verifier = v; request = s; buffer = buf }) st o
-    → ServePromise (record { geometry = h; verifier = v; request = s; buffer = buf }) st (o .number) (o .read ∷ o .written ∷ []) (o .reply) (o .store)
+pub answered : (g h : Geometry) (v s buf : List ℕ) (st : Store) (o : Outcome Store) → g ≡ h
+    → Contract (record { config = config g v; request = s; buffer = buf }) st o
+    → ServePromise (record { config = config h v; request = s; buffer = buf }) st (o .number) (o .read ∷ o .written ∷ []) (o .reply) (o .store)
 answered g h v s buf st o e p =
-    let q = subst (λ (k : Geometry). Contract (record { geometry = k; verifier = v; request = s; buffer = buf }) st o) e p in
+    let q = subst (λ (k : Geometry). Contract (record { config = config k v; request = s; buffer = buf }) st o) e p in
     record {
       number-is = q .number;
       counts-are = two _ _ _ _ (q .read) (q .written);

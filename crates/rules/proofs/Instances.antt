@@ -1,0 +1,154 @@
+-- The hypotheses of the reservation and of the read-back are met: on P1 and P3, and on P5 and P6 with the CLONE of the region between, each
+-- followed by a READ.
+use Prim.Native.Nat.{ℕ, zero, suc}
+use mathlib.Core.Path.{_≡_, refl, sym, ap, _∙_}
+use mathlib.Core.Bool.{Bool, true, false, _&&_, not, true≢false}
+use mathlib.Core.Option.{Option, none, some}
+use mathlib.Core.List.{List, [], _∷_, _++_, map, List·Memᴰ, List·Memᴰ·not-nil, List·Memᴰ·cases-cons}
+use mathlib.Core.Logic.{_⊎_, inl, inr}
+use native.Mathlib.Omega.{arith}
+use borrow.Author.Tests.{eq-eqb}
+use lib.ListN.{length, take, drop, replicate}
+use lib.Dec.{eqb}
+use Rattle.rules.specs.Store.{Geometry}
+use Rattle.rules.specs.Edit.{Edit, Act, write, copy, clone, allocate, deallocate}
+use Rattle.rules.specs.Operation.{Op, READ, bad}
+use Rattle.rules.specs.Run.{zeroId, Event, failed}
+use Rattle.rules.specs.Calls.{fresh}
+use Rattle.rules.specs.Claim.{serving, history, OK, editDone, Edits, GivesBack, RightAfter, Allocated, ReadAfter, ReadsBack}
+use Rattle.rules.proofs.BoolLaws.{and-left, and-right}
+use Rattle.rules.proofs.Script as S
+
+-- ---- operations between that touch no allocated slot, or not the file: by a test
+
+abbrev isDeallocate : Act → Bool
+isDeallocate (write new) = false
+isDeallocate (copy s soff) = false
+isDeallocate (clone s soff) = false
+isDeallocate allocate = false
+isDeallocate deallocate = true
+
+-- no event passes a test on the edit that it made
+abbrev noEdit : Geometry → (Edit → Bool) → List Event → Bool
+noEdit g p [] = true
+noEdit g p (z ∷ zs) = elim (editDone g z) [ none ↦ true | some e ↦ not (p e) ] && noEdit g p zs
+
+none-passes : (g : Geometry) (p : Edit → Bool) (zs : List Event) → noEdit g p zs ≡ true → (z : Event) → List·Memᴰ z zs → (e : Edit) → editDone g z ≡ some e → p e ≡ true → ⊥
+none-passes g p [] t z m e d h = List·Memᴰ·not-nil m
+none-passes g p (y ∷ ys) t z m e d h = go (List·Memᴰ·cases-cons m) (none-passes g p ys (and-right here (noEdit g p ys) t) z)
+  where
+    here : Bool
+    here = elim (editDone g y) [ none ↦ true | some e ↦ not (p e) ]
+
+    clash : (u : Option Edit) → u ≡ some e → elim u [ none ↦ true | some e ↦ not (p e) ] ≡ true → ⊥
+    clash u q k = true≢false (sym k ∙ ap (λ u. elim u [ none ↦ true | some e ↦ not (p e) ]) q ∙ ap not h)
+
+    go : (z ≡ y) ⊎ List·Memᴰ z ys → (List·Memᴰ z ys → (e : Edit) → editDone g z ≡ some e → p e ≡ true → ⊥) → ⊥
+    go (inl q) ih = clash (editDone g y) (ap (editDone g) (sym q) ∙ d) (and-left here (noEdit g p ys) t)
+    go (inr k) ih = ih k e d h
+
+kept-by : (g : Geometry) (zs : List Event) → noEdit g (λ e. isDeallocate (e .act)) zs ≡ true → (z : Event) → List·Memᴰ z zs → (f k : ℕ) → GivesBack g f k z → ⊥
+kept-by g zs t z m f k b = none-passes g (λ e. isDeallocate (e .act)) zs t z m (b .0) (b .1 .0) (ap isDeallocate (b .2))
+
+right-after-by : (g : Geometry) (f : ℕ) (zs : List Event) → noEdit g (λ e. eqb (e .file) f) zs ≡ true → RightAfter g f zs
+right-after-by g f zs t z m e d = none-passes g (λ e. eqb (e .file) f) zs t z m e (d .0) (eq-eqb (e .file) f (d .1))
+
+-- ---- the lists
+
+abbrev events : ℕ → List (List Op) → List Event
+events n os = history serving (S.empty n) (map (S.call n) os)
+
+-- the event with number k, of as many
+abbrev event : ℕ → List Event → Event
+event k [] = failed (bad 0 1) (fresh (S.empty 0)) 1
+event zero (z ∷ zs) = z
+event (suc k) (z ∷ zs) = event k zs
+
+abbrev reading : List Op
+reading = S.on 0 ∷ READ zeroId 0 1 ∷ []
+
+-- P1, P3: PUTFH, ALLOCATE; PUTFH, WRITE; PUTFH, READ
+abbrev first : List Event
+first = events 2 (S.allocate 1024 ∷ S.write 0 (7 ∷ []) ∷ reading ∷ [])
+
+-- P5, P6: the same with three blocks; PUTFH, SAVEFH, PUTFH, CLONE; PUTFH, WRITE; PUTFH, READ
+abbrev second : List Event
+second = events 3 (S.allocate 1024 ∷ S.write 0 (7 ∷ []) ∷ S.clone 512 ∷ S.write 0 (9 ∷ []) ∷ reading ∷ [])
+
+pub p3-allocated : Allocated (S.geometry 2) first 0 0 1024 0 (7 ∷ []) (event 3 first)
+unfolding S.rules
+p3-allocated = record {
+  a = event 1 first;
+  mid = take 1 (drop 2 first);
+  between = (take 1 first, drop 4 first, refl);
+  id = zeroId;
+  allocate = ((_, refl), refl);
+  done = refl;
+  kept = λ z k m s b. kept-by (S.geometry 2) (take 1 (drop 2 first)) refl z m 0 k b;
+  stable = 2;
+  write = ((_, refl), refl);
+  some-byte = omega arith;
+  starts = omega arith;
+  ends = omega arith;
+}
+
+pub p3-read : ReadAfter (S.geometry 2) first 0 0 0 1 (7 ∷ []) (event 5 first)
+unfolding S.rules
+p3-read = record {
+  w = event 3 first;
+  mid = take 1 (drop 4 first);
+  between = (take 3 first, [], refl);
+  id = zeroId;
+  stable = 2;
+  write = ((_, refl), refl);
+  done = refl;
+  right-after = right-after-by (S.geometry 2) 0 (take 1 (drop 4 first)) refl;
+  read = ((_, refl), refl);
+  starts = omega arith;
+  ends = omega arith;
+  granted = omega arith;
+}
+
+-- between P1's ALLOCATE and P6's WRITE stand a WRITE and the CLONE of the region
+pub p6-allocated : Allocated (S.geometry 3) second 0 0 1024 0 (9 ∷ []) (event 9 second)
+unfolding S.rules
+p6-allocated = record {
+  a = event 1 second;
+  mid = take 7 (drop 2 second);
+  between = (take 1 second, drop 10 second, refl);
+  id = zeroId;
+  allocate = ((_, refl), refl);
+  done = refl;
+  kept = λ z k m s b. kept-by (S.geometry 3) (take 7 (drop 2 second)) refl z m 0 k b;
+  stable = 2;
+  write = ((_, refl), refl);
+  some-byte = omega arith;
+  starts = omega arith;
+  ends = omega arith;
+}
+
+pub p6-read : ReadAfter (S.geometry 3) second 0 0 0 1 (9 ∷ []) (event 11 second)
+unfolding S.rules
+p6-read = record {
+  w = event 9 second;
+  mid = take 1 (drop 10 second);
+  between = (take 9 second, [], refl);
+  id = zeroId;
+  stable = 2;
+  write = ((_, refl), refl);
+  done = refl;
+  right-after = right-after-by (S.geometry 3) 0 (take 1 (drop 10 second)) refl;
+  read = ((_, refl), refl);
+  starts = omega arith;
+  ends = omega arith;
+  granted = omega arith;
+}
+
+-- what the claim says of them, seen by computing: OK, and the byte written
+pub p3-seen : OK (event 3 first) × (OK (event 5 first) × ReadsBack 0 0 0 1 (7 ∷ []) (event 5 first))
+unfolding S.rules
+p3-seen = (refl, (refl, refl))
+
+pub p6-seen : OK (event 9 second) × (OK (event 11 second) × ReadsBack 0 0 0 1 (9 ∷ []) (event 11 second))
+unfolding S.rules
+p6-seen = (refl, (refl, refl))

@@ -6,7 +6,6 @@ use mathlib.Core.Option.{Option, none, some}
 use mathlib.Core.List.{List, [], _++_}
 use mathlib.Core.Logic.{_≢_, _⊎_, inl, inr}
 use native.Mathlib.Omega.{arith}
-use borrow.Author.Tests.{ltb-false, lt-ltb, eqb-false}
 use lib.ListN.{length, getD}
 use lib.Dec.{leb, ltb, eqb}
 use Rattle.xdr.specs.Bytes.{partOf, Written}
@@ -16,14 +15,12 @@ use Rattle.rules.specs.Store.{Geometry, Store}
 use Rattle.rules.specs.Edit.{edited, cloning, copying}
 use Rattle.rules.specs.Operation.{INVAL, FBIG, NOSPC, NOFILEHANDLE, BAD-STATEID, Op, opNumber, copyResult, fileSync}
 use Rattle.rules.specs.Run.{overlap, uneven, sourceCount, State, noFile, readStateid, zeroStateid, errors, effect, body, perform, config, does}
-use Rattle.rules.proofs.GeometryLaws.{good, block-pos, lengths}
-use Rattle.rules.proofs.SoundLaws.{sound-facts}
+use Rattle.rules.proofs.GeometryLaws.{good, lengths}
 use Rattle.rules.proofs.BoolLaws.{or-inl, or-inr}
-use Rattle.rules.proofs.FirstLaws.{all-clear}
 use Rattle.rules.proofs.ErrorLaws.{copy-clear, clone-clear}
 use Rattle.store.specs.Tables.{Shaped}
-use Rattle.store.specs.Plan.{Counted}
-use Rattle.store.specs.Edits.{EditKnown, EditPromise, CopyKnown, CloneKnown}
+use Rattle.store.specs.Plan.{TableTrue}
+use Rattle.store.specs.EditPromises.{EditKnown, EditPromise, CopyKnown, CloneKnown}
 use Rattle.compound.specs.declared.answer.Handle.{Handle}
 use Rattle.compound.specs.declared.answer.Answer.{Answer}
 use Rattle.compound.specs.declared.operation.CloneArgs.{CloneArgs}
@@ -116,7 +113,7 @@ module _ (g : Geometry) {st : Store} {e f : ℕ} (o : Op) {r : ℕ} (found : Fou
   error-is : (x : State) → x .saved ≡ some e → x .current ≡ some f → x .store ≡ st → first (errors g x o) ≡ r
   error-is x saved current same = sym (found x saved current (ap (λ (t : Store). t .sizes) same))
 
-  pub pair-error : {counts : List ℕ} → r ≢ 0 → Counted (st .words) counts → Ends g st e f o r st counts
+  pub pair-error : {counts : List ℕ} → r ≢ 0 → TableTrue (st .words) counts → Ends g st e f o r st counts
   pair-error n c v x next saved current same = edit-failed g v x o next st same r (error-is x saved current same) n c
 
   module _ (clear : r ≡ 0) {planned : Store} (leaves : Leaves g st e f o planned) {ok : Bool} {after : Store} {counts : List ℕ} (p : EditPromise g st planned ok after counts) where
@@ -150,7 +147,7 @@ no-pair u w (inr e) = or-inr (noFile u) (noFile w) (ap noFile e)
 
 module _ {g : Geometry} (v : List ℕ) {x : State} {o : Op} (p : Pairs g x o) {counts : List ℕ} {at : ℕ} {before reply : List ℕ} where
   -- one of the handles names no file
-  pub pair-missing : {r : Answer} → Counted (x .store .words) counts → (x .saved ≡ none) ⊎ (x .current ≡ none) → {current saved : Handle} → fileIn current ≡ x .current
+  pub pair-missing : {r : Answer} → TableTrue (x .store .words) counts → (x .saved ≡ none) ⊎ (x .current ≡ none) → {current saved : Handle} → fileIn current ≡ x .current
       → fileIn saved ≡ x .saved → Bare (opNumber o) NOFILEHANDLE current saved r at before reply
       → (next : ℕ) → Answered (perform (config g v) x o next) r (x .store) counts at before reply
   pair-missing c m {current} {saved} current-is saved-is b next =

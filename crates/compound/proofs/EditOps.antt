@@ -1,14 +1,12 @@
 -- WRITE, ALLOCATE and DEALLOCATE: the ways out of their tests, what their edits ask and leave, and their answers.
-use Prim.Native.Nat.{ℕ, _+_, _-_, _*_, _^_, _≤_, _<_, min}
+use Prim.Native.Nat.{ℕ, _+_, _-_, _^_, _≤_, _<_, min}
 use mathlib.Core.Path.{_≡_, refl, sym, ap, _∙_}
-use mathlib.Core.Bool.{Bool, true, false, cond, _&&_}
+use mathlib.Core.Bool.{Bool, true, false, cond}
 use mathlib.Core.Option.{Option, none, some}
 use mathlib.Core.List.{List, [], _++_}
 use mathlib.Core.Logic.{_≢_}
 use native.Mathlib.Omega.{arith}
-use borrow.Author.Tests.{ltb-false, leb-false, eqb-false, lt-ltb}
 use lib.ListN.{length, getD, drop, length-take, length-drop}
-use lib.Dec.{ltb}
 use Rattle.xdr.specs.declared.bytes.Span.{Span}
 use Rattle.xdr.specs.Bytes.{partOf, Written}
 use Rattle.xdr.specs.Encode.{u32}
@@ -19,7 +17,7 @@ use Rattle.rules.specs.Operation.{NOFILEHANDLE, Op, WRITE, ALLOCATE, DEALLOCATE
 use Rattle.rules.specs.Run.{State, Event, noFile, errors, effect, body, perform, config, does}
 use Rattle.rules.proofs.ErrorLaws.{write-clear, allocate-clear, deallocate-clear}
 use Rattle.rules.proofs.GeometryLaws.{good, lengths}
-use Rattle.store.specs.Edits.{EditKnown, WriteKnown, RegionKnown}
+use Rattle.store.specs.EditPromises.{EditKnown, WriteKnown, RegionKnown}
 use Rattle.compound.specs.declared.answer.Handle.{Handle}
 use Rattle.compound.specs.declared.answer.Answer.{Answer}
 use Rattle.compound.specs.Runner.{fileIn, stateOf, Runs, Done, Bare, Answered}

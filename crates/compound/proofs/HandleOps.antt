@@ -19,7 +19,7 @@ use Rattle.rules.specs.Store.{Geometry, Store, need}
 use Rattle.rules.specs.Operation.{STALE, BADHANDLE, NOFILEHANDLE, Op, GETFH, PUTFH, Item, op, bad, opNumber, itemAt}
 use Rattle.rules.specs.Run.{State, noFile, fileOf, failed, errors, effect, body, perform, config, does, countedAfter}
 use Rattle.rules.specs.Calls.{placeAfter}
-use Rattle.store.specs.Plan.{Counted}
+use Rattle.store.specs.Plan.{TableTrue}
 use Rattle.rules.proofs.GeometryLaws.{good, block-pos}
 use Rattle.rules.proofs.SoundLaws.{sound-facts}
 use Rattle.compound.specs.declared.answer.Handle.{Handle}
@@ -46,7 +46,7 @@ small-file {g} k f e = omega (arith, k .current f e, good g (k .shaped .geometry
 pub has-handle : (u : Handle) {f : ℕ} → u ≡ Handle.File f → first ((noFile (fileIn u), NOFILEHANDLE) ∷ []) ≡ 0
 has-handle u e = rw e
 
-module _ (g : Geometry) (v : List ℕ) (current saved : Handle) (st : Store) (o : Op) (next : ℕ) {counts : List ℕ} (counted : Counted (st .words) counts) where
+module _ (g : Geometry) (v : List ℕ) (current saved : Handle) (st : Store) (o : Op) (next : ℕ) {counts : List ℕ} (counted : TableTrue (st .words) counts) where
   -- an error: nothing changes
   pub refused-answer : (e : ℕ) {r : Answer} {at : ℕ} {before reply : List ℕ} → first (errors g (stateOf current saved st) o) ≡ e → e ≢ 0
       → Bare (opNumber o) e current saved r at before reply → Answered (perform (config g v) (stateOf current saved st) o next) r st counts at before reply
@@ -92,7 +92,7 @@ handle-bytes : (f : ℕ) → opaque (u32 f) ≡ u32 4 ++ u32 f
 unfolding opaque u32 be
 handle-bytes f = refl
 
-module _ (g : Geometry) (v : List ℕ) (current saved : Handle) (st : Store) (next : ℕ) {counts : List ℕ} (counted : Counted (st .words) counts) where
+module _ (g : Geometry) (v : List ℕ) (current saved : Handle) (st : Store) (next : ℕ) {counts : List ℕ} (counted : TableTrue (st .words) counts) where
   pub get-answer : {f at p q n : ℕ} {before y z reply : List ℕ} → Known g (stateOf current saved st) → current ≡ Handle.File f → at ≤ length before → p ≤ length y
       → Written (u32 10 ++ u32 0) 8 at before y p → Written (u32 4) 4 p y z q → Written (u32 f) 4 q z reply n
       → Answered (perform (config g v) (stateOf current saved st) GETFH next) (record { status = 0; next = n; current = Handle.File f; saved = saved }) st counts at before reply

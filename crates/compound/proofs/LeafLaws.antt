@@ -15,8 +15,8 @@ use Rattle.xdr.specs.Encode.{u32}
 use Rattle.xdr.proofs.BytesLaws.{length-splice, written-then}
 use Rattle.rules.specs.Store.{Geometry, Store}
 use Rattle.rules.specs.Operation.{bad}
-use Rattle.rules.specs.Run.{overlap, uneven, sameBytes, zeroStateid, readStateid, failed, does}
-use Rattle.store.specs.Plan.{Counted}
+use Rattle.rules.specs.Run.{overlap, uneven, sameBytes, zeroStateid, readStateid, failed}
+use Rattle.store.specs.Plan.{TableTrue}
 use Rattle.rules.proofs.BoolLaws.{and-both}
 use Rattle.compound.specs.declared.run.Progress.{Progress}
 use Rattle.compound.specs.Runner.{fileIn, stateOf, Turned}
@@ -160,7 +160,7 @@ written-more {a} {b} {n} {m} {at} {p} {q} {x} {y} {z} h f g =
 
 pub stopped : {number status : ℕ} {r r′ : Progress} {before reply : List ℕ} → r′ .status ≡ status → r′ .count ≡ r .count + 1 → r′ .read ≡ r .read
     → r′ .current ≡ r .current → r′ .saved ≡ r .saved → Written (u32 number ++ u32 status) 8 (r .out) before reply (r′ .out)
-    → (st : Store) (counts : List ℕ) → Counted (st .words) counts
+    → (st : Store) (counts : List ℕ) → TableTrue (st .words) counts
     → Turned (failed (bad number status) (stateOf (r .current) (r .saved) st) status) r r′ st counts before reply
 stopped {number} {status} {r} s c a u v w st counts t = record {
   done = record { status-is = s; sizes-are = refl; words-are = refl; mem-is = refl; counted = t };

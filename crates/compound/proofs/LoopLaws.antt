@@ -7,18 +7,15 @@ use mathlib.Core.List.{List, [], _∷_, _++_, append-assoc, append-nil}
 use mathlib.Core.Logic.{_≢_}
 use native.Mathlib.Omega.{arith}
 use native.Mathlib.Nat.{add-zero}
-use lib.ListN.{length, length-append, take, drop, take-append-drop}
-use Rattle.xdr.specs.Bytes.{splice, Written}
-use Rattle.xdr.specs.Encode.{u32, concatMap}
-use Rattle.xdr.proofs.BytesLaws.{length-splice, written-then}
-use Rattle.xdr.proofs.EncodeLaws.{length-u32}
-use Rattle.rules.specs.Store.{Geometry, goodGeometry, Store, goodLengths, sound}
+use lib.ListN.{length, length-append, take-append-drop}
+use Rattle.xdr.specs.Bytes.{splice}
+use Rattle.xdr.specs.Encode.{concatMap}
+use Rattle.xdr.proofs.BytesLaws.{written-then}
+use Rattle.rules.specs.Store.{Geometry, goodGeometry, Store, sound}
 use Rattle.rules.specs.Operation.{Op, Item, op, bad, itemAt, items}
 use Rattle.rules.specs.Run.{State, Event, failed, perform, reached, config}
-use Rattle.rules.specs.Calls.{resultBytes, placeAfter, lastPlace, lastOf, lastStatus, lastStore, fresh}
-use Rattle.store.specs.Tables.{Shaped}
-use Rattle.store.specs.Plan.{Counted}
-use Rattle.rules.proofs.FileLaws.{Sound}
+use Rattle.rules.specs.Calls.{resultBytes, placeAfter, lastPlace, lastOf, fresh}
+use Rattle.store.specs.Plan.{TableTrue}
 use Rattle.rules.proofs.GeometryLaws.{Good, good, block-pos}
 use Rattle.rules.proofs.SoundLaws.{sound-facts, lengths-test, sound-test}
 use Rattle.rules.proofs.OperationLaws.{Ready, performed}
@@ -26,7 +23,7 @@ use Rattle.rules.proofs.ItemLaws as Items
 use Rattle.rules.proofs.ChainLaws.{Step, decoded, undecoded, step-after, step-known}
 use Rattle.compound.specs.declared.answer.Handle.{Handle}
 use Rattle.compound.specs.declared.run.Progress.{Progress}
-use Rattle.compound.specs.Runner.{fileIn, stateOf, Known, Runs, Done, eventAt, Turned, RunsAll, RanAll}
+use Rattle.compound.specs.Runner.{stateOf, Known, Runs, eventAt, Turned, RunsAll, RanAll}
 use Rattle.compound.proofs.RunLaws.{perform-item}
 
 -- ---- what stays known
@@ -175,7 +172,7 @@ pub record Held (g : Geometry) (v s : List ℕ) (st : Store) (ops at out : ℕ) 
   pub left : reached (config g v) (fresh st) (items s ops at) ≡ zs ++ reached (config g v) x (items s (ops - r .count) (r .read))
   pub within : r .count ≤ ops
   pub known : Known g x
-  pub counted : Counted (x .store .words) counts
+  pub counted : TableTrue (x .store .words) counts
   pub blocks : length counts ≡ g .N
   pub sizes-long : length (x .store .sizes) ≡ length (st .sizes)
   pub words-long : length (x .store .words) ≡ length (st .words)

@@ -18,10 +18,10 @@ use Rattle.rules.specs.Store.{Geometry, Store, sizeOf, bytesFrom, sound}
 use Rattle.rules.specs.Read.{granted, readPieces, seekPlace}
 use Rattle.rules.specs.Operation.{pieceBytes, NXIO, NOFILEHANDLE, BAD-STATEID, UNION-NOTSUPP, Op, READ, READ-PLUS, SEEK, opNumber, readReply, readPlusReply, seekReply}
 use Rattle.rules.specs.Run.{State, noFile, fileOf, readStateid, errors, effect, body, perform, config, does, countedAfter}
-use Rattle.store.specs.Plan.{Counted}
-use Rattle.store.specs.ReadCode.{Placed, Readable, PiecesFit, PiecesPut, piecesTo, piecesSize}
+use Rattle.store.specs.Plan.{TableTrue}
+use Rattle.store.specs.Readable.{Placed, Readable, PiecesFit, PiecesPut, piecesTo, piecesSize}
 use Rattle.store.specs.Tables.{Shaped}
-use Rattle.rules.proofs.FileLaws.{Sound}
+use Rattle.rules.proofs.SoundStore.{Sound}
 use Rattle.rules.proofs.GeometryLaws.{Good, good, lengths}
 use Rattle.rules.proofs.SoundLaws.{sound-facts}
 use Rattle.rules.proofs.BodyLaws.{read-plus-most}
@@ -186,12 +186,12 @@ module _ {o : Op} {i : List ℕ} {b : Geometry → Store → ℕ → List ℕ} {
   saved-stays = ap (λ (y : State). y .saved) (s .stays g x)
 
   -- no error: the store is as before, and a sound store's pool is large enough for it
-  unchanged : {counts : List ℕ} → Known g x → first (errors g x o) ≡ 0 → Counted (x .store .words) counts → Done (perform (config g v) x o next) 0 (x .store) counts
+  unchanged : {counts : List ℕ} → Known g x → first (errors g x o) ≡ 0 → TableTrue (x .store .words) counts → Done (perform (config g v) x o next) 0 (x .store) counts
   unchanged k e c = rw (perform-done g v x o next e (rw (s .stays g x, countedAfter) (facts (k .shaped) (k .sound) .room)), s .stays g x)
       (record { status-is = refl; sizes-are = refl; words-are = refl; mem-is = refl; counted = c })
 
   module _ {current saved : Handle} (current-is : fileIn current ≡ x .current) (saved-is : fileIn saved ≡ x .saved)
-      {counts : List ℕ} (counted : Counted (x .store .words) counts) {at : ℕ} {before reply : List ℕ} where
+      {counts : List ℕ} (counted : TableTrue (x .store .words) counts) {at : ℕ} {before reply : List ℕ} where
     pub shown-failed : {e : ℕ} {r : Answer} → first (errors g x o) ≡ e → e ≢ 0 → Bare (opNumber o) e current saved r at before reply
         → Answered (perform (config g v) x o next) r (x .store) counts at before reply
     shown-failed {e} h n d =

@@ -1,14 +1,13 @@
 -- From the parts of an operation to its answer: the store's promise and the written bytes against the rules' event.
 use Prim.Native.Nat.{ℕ, zero, suc, _+_, _≤_, _<_}
-use mathlib.Core.Path.{_≡_, refl, sym, ap, _∙_, subst}
+use mathlib.Core.Path.{_≡_, refl, sym, ap, _∙_}
 use mathlib.Core.Bool.{Bool, true, false, cond}
-use mathlib.Core.Option.{Option, none, some}
-use mathlib.Core.List.{List, [], _∷_, _++_, append-nil, append-assoc}
+use mathlib.Core.Option.{some}
+use mathlib.Core.List.{List, [], _++_, append-nil, append-assoc}
 use mathlib.Core.Logic.{_≢_}
 use native.Mathlib.Omega.{arith}
-use borrow.Author.Tests.{leb-true, leb-false, lt-ltb, le-ltb, le-leb, lt-leb}
-use lib.ListN.{length, length-append}
-use lib.Dec.{leb, ltb}
+use borrow.Author.Tests.{leb-true, leb-false, le-leb, lt-leb}
+use lib.ListN.{length}
 use Rattle.xdr.specs.Bytes.{splice, Written}
 use Rattle.xdr.specs.Encode.{u32}
 use Rattle.xdr.proofs.BytesLaws.{written-then}
@@ -17,11 +16,11 @@ use Rattle.rules.specs.Store.{Geometry, Store, need, fitsPool}
 use Rattle.rules.specs.Operation.{NOSPC, Op, op, opNumber}
 use Rattle.rules.specs.Run.{State, Event, failed, errors, effect, body, countedAfter, perform, config}
 use Rattle.rules.specs.Calls.{itemNumber, resultBytes}
-use Rattle.store.specs.Plan.{Counted}
-use Rattle.store.specs.Edits.{EditKnown, EditPromise, judged}
+use Rattle.store.specs.Plan.{TableTrue}
+use Rattle.store.specs.EditPromises.{EditKnown, EditPromise, judged}
 use Rattle.compound.specs.declared.answer.Handle.{Handle}
 use Rattle.compound.specs.declared.answer.Answer.{Answer}
-use Rattle.compound.specs.Runner.{fileIn, Known, Runs, Done, Bare, Answered}
+use Rattle.compound.specs.Runner.{fileIn, Runs, Done, Bare, Answered}
 use Rattle.rules.proofs.OperationLaws.{Performed, nospc, done, performed, refused}
 
 -- ---- the rules' event
@@ -94,7 +93,7 @@ edit-known r f e =
 
 module _ (g : Geometry) (v : List ℕ) (x : State) (o : Op) (next : ℕ) (st : Store) (same : x .store ≡ st) where
   -- an error before the edit
-  pub edit-failed : (e : ℕ) {counts : List ℕ} → first (errors g x o) ≡ e → e ≢ 0 → Counted (st .words) counts → Done (perform (config g v) x o next) e st counts
+  pub edit-failed : (e : ℕ) {counts : List ℕ} → first (errors g x o) ≡ e → e ≢ 0 → TableTrue (st .words) counts → Done (perform (config g v) x o next) e st counts
   edit-failed e h n c = rw (perform-failed g v x o next e h n) (record {
     status-is = refl;
     sizes-are = ap (λ (s : Store). s .sizes) (sym same);

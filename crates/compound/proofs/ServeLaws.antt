@@ -1,34 +1,31 @@
 -- The call that serves a compound: its refusals one by one, and the reply of the operations reached.
-use Prim.Native.Nat.{ℕ, zero, suc, _+_, _-_, _≤_, _<_}
-use mathlib.Core.Path.{_≡_, refl, sym, ap, _∙_, subst}
-use mathlib.Core.Bool.{Bool, true, false, cond, not}
+use Prim.Native.Nat.{ℕ, zero, suc, _+_, _≤_, _<_}
+use mathlib.Core.Path.{_≡_, refl, sym, ap, _∙_}
+use mathlib.Core.Bool.{Bool, true, false, not}
 use mathlib.Core.List.{List, [], _∷_, _++_, append-nil}
 use mathlib.Core.Logic.{_≢_}
 use native.Mathlib.Omega.{arith}
 use native.Mathlib.Nat.{zero-add}
 use borrow.Author.Tests.{lt-ltb, le-ltb, ltb-false, eq-eqb, ne-eqb}
-use lib.ListN.{length, take, drop, length-append, length-replicate}
+use lib.ListN.{length, drop, length-replicate}
 use lib.Dec.{ltb, eqb}
-use Rattle.xdr.specs.declared.bytes.Span.{Span}
-use Rattle.xdr.specs.Bytes.{partOf, splice, Written}
+use Rattle.xdr.specs.Bytes.{splice, Written}
 use Rattle.xdr.specs.Encode.{opaqueSize, padBytes, concatMap}
 use Rattle.xdr.specs.Decode.{got, fault}
 use Rattle.rules.specs.Lists.{first}
 use Rattle.rules.specs.Store.{Geometry, goodGeometry, Store, goodLengths, sound}
 use Rattle.rules.specs.Operation.{MINOR-VERS-MISMATCH, TOO-MANY-OPS, items, Header, header}
-use Rattle.rules.specs.Run.{Event, reached, config}
-use Rattle.rules.specs.Calls.{storeRefusal, resultBytes, replyHead, replyBytes, lastStatus, fresh, headerStatus, compound, Outcome, Gives, refuse, served, refusals, refusal, Call, answer, Contract}
-use Rattle.store.specs.Tables.{Shaped, Tallied}
+use Rattle.rules.specs.Run.{reached, config}
+use Rattle.rules.specs.Calls.{storeRefusal, resultBytes, replyHead, replyBytes, lastStatus, fresh, headerStatus, compound, Outcome, Gives, refuse, served, refusal, Call, answer, Contract}
 use Rattle.store.specs.Survey.{TableReady, Surveyed}
 use Rattle.rules.proofs.GeometryLaws.{good, block-pos}
 use Rattle.rules.proofs.SoundLaws.{sound-facts}
 use Rattle.rules.proofs.FirstLaws.{all-clear}
 use Rattle.rules.proofs.ItemLaws.{header-reads}
 use Rattle.rules.proofs.ReplyLaws.{compound-results}
-use Rattle.store.proofs.EditLaws.{sound-counted}
-use Rattle.compound.specs.declared.serving.Served.{Served}
+use Rattle.store.proofs.SurveyKnown.{sound-counted}
 use Rattle.compound.specs.declared.run.Progress.{Progress}
-use Rattle.compound.specs.Runner.{Serves, RunsAll, RanAll, headerOf}
+use Rattle.compound.specs.Runner.{Serves, RunsAll, RanAll}
 use Rattle.compound.proofs.SpliceLaws.{written-before}
 
 -- ---- the reply

@@ -13,7 +13,7 @@ use Rattle.rules.specs.Operation.{op, bad, itemAt, Header}
 use Rattle.rules.specs.Run.{State, Event, failed, perform, config}
 use Rattle.rules.specs.Calls.{resultBytes, placeAfter, lastPlace, lastStatus, lastStore}
 use Rattle.store.specs.Tables.{Shaped}
-use Rattle.store.specs.Plan.{Counted}
+use Rattle.store.specs.Plan.{TableTrue}
 use Rattle.compound.specs.declared.answer.Handle.{Handle}
 use Rattle.compound.specs.declared.answer.Answer.{Answer}
 use Rattle.compound.specs.declared.run.Progress.{Progress}
@@ -40,7 +40,7 @@ pub record Known (g : Geometry) (x : State) : Type 0 where
 -- `at` of the reply
 pub record Runs (g : Geometry) (v s : List ℕ) (x : State) (counts reply : List ℕ) (at : ℕ) : Type 0 where
   pub known : Known g x
-  pub counted : Counted (x .store .words) counts
+  pub counted : TableTrue (x .store .words) counts
   pub blocks : length counts ≡ g .N
   pub verifier : length v ≡ 8
   pub request : length s ≤ 65536
@@ -61,7 +61,7 @@ pub record Done (z : Event) (status : ℕ) (after : Store) (counts : List ℕ) :
   pub sizes-are : after .sizes ≡ z .after .store .sizes
   pub words-are : after .words ≡ z .after .store .words
   pub mem-is : after .mem ≡ z .after .store .mem
-  pub counted : Counted (after .words) counts
+  pub counted : TableTrue (after .words) counts
 
 -- a result without a body: number and status; the handles stay
 pub record Bare (number status : ℕ) (current saved : Handle) (r : Answer) (at : ℕ) (before reply : List ℕ) : Type 0 where
@@ -98,7 +98,7 @@ pub record Turned (z : Event) (r r′ : Progress) (after : Store) (counts before
 pub record RunsAll (g : Geometry) (v s : List ℕ) (st : Store) (counts : List ℕ) (ops : ℕ) (reply : List ℕ) (out : ℕ) : Type 0 where
   pub shaped : Shaped g st
   pub sound : sound g st ≡ true
-  pub counted : Counted (st .words) counts
+  pub counted : TableTrue (st .words) counts
   pub blocks : length counts ≡ g .N
   pub verifier : length v ≡ 8
   pub request : length s ≤ 65536
@@ -121,7 +121,7 @@ pub record RanAll (zs : List Event) (st : Store) (at out : ℕ) (r : Progress) (
 pub record Serves (g : Geometry) (v s : List ℕ) (st : Store) (counts reply : List ℕ) : Type 0 where
   pub shaped : Shaped g st
   pub sound : sound g st ≡ true
-  pub counted : Counted (st .words) counts
+  pub counted : TableTrue (st .words) counts
   pub blocks : length counts ≡ g .N
   pub verifier : length v ≡ 8
   pub request : length s ≤ 65536

@@ -11,7 +11,7 @@ ghost use Rattle.rules.specs.Lists.{first};
 ghost use Rattle.rules.specs.Store.{goodGeometry, Store};
 ghost use Rattle.rules.specs.Run.{State, zeroStateid, readStateid, errors, perform, overlap, uneven, config};
 ghost use Rattle.store.specs.Lent.{geometryOf};
-ghost use Rattle.store.specs.Edits.{EditKnown};
+ghost use Rattle.store.specs.EditPromises.{EditKnown};
 ghost use Rattle.compound.specs.Decoded.{meaning};
 ghost use Rattle.compound.specs.Runner.{stateOf, Runs, Done, Answered};
 use crate::answer::Answer;

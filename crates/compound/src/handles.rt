@@ -9,7 +9,7 @@ ghost use Rattle.store.specs.Lent.{geometryOf};
 ghost use Rattle.rules.specs.Store.{Store};
 ghost use Rattle.rules.specs.Operation.{GETFH, SAVEFH, RESTOREFH};
 ghost use Rattle.rules.specs.Run.{perform, config};
-ghost use Rattle.store.specs.Plan.{Counted};
+ghost use Rattle.store.specs.Plan.{TableTrue};
 ghost use Rattle.compound.specs.Decoded.{meaning};
 ghost use Rattle.compound.specs.Runner.{fileIn, stateOf, Known, Answered};
 use crate::answer::Answer;
@@ -24,7 +24,7 @@ use xdr::Word;
 
 pub fn get_fh(current: Handle, saved: Handle, reply: &mut [u8], at: usize) -> Answer
     requires { ⌜ ((f : ℕ) → fileIn current ≡ some f → f < 2 ^ 32) × (at + 16 ≤ length (now reply)) ⌝ }
-    ensures { λ r. ⌜ ((g : G.Geometry) (v : List ℕ) (st : Store) (counts : List ℕ) (next : ℕ) → Known g (stateOf current saved st) → Counted (st .words) counts
+    ensures { λ r. ⌜ ((g : G.Geometry) (v : List ℕ) (st : Store) (counts : List ℕ) (next : ℕ) → Known g (stateOf current saved st) → TableTrue (st .words) counts
         → Answered (perform (config g v) (stateOf current saved st) GETFH next)
         r st counts at (now (reply .entry)) (now (reply .exit))) ⌝ }
 {
@@ -51,7 +51,7 @@ pub fn get_fh(current: Handle, saved: Handle, reply: &mut [u8], at: usize) -> An
 
 pub fn save_fh(current: Handle, saved: Handle, reply: &mut [u8], at: usize) -> Answer
     requires { ⌜ at + 8 ≤ length (now reply) ⌝ }
-    ensures { λ r. ⌜ ((g : G.Geometry) (v : List ℕ) (st : Store) (counts : List ℕ) (next : ℕ) → Known g (stateOf current saved st) → Counted (st .words) counts
+    ensures { λ r. ⌜ ((g : G.Geometry) (v : List ℕ) (st : Store) (counts : List ℕ) (next : ℕ) → Known g (stateOf current saved st) → TableTrue (st .words) counts
         → Answered (perform (config g v) (stateOf current saved st) SAVEFH next)
         r st counts at (now (reply .entry)) (now (reply .exit))) ⌝ }
 {
@@ -70,7 +70,7 @@ pub fn save_fh(current: Handle, saved: Handle, reply: &mut [u8], at: usize) -> A
 
 pub fn restore_fh(current: Handle, saved: Handle, reply: &mut [u8], at: usize) -> Answer
     requires { ⌜ at + 8 ≤ length (now reply) ⌝ }
-    ensures { λ r. ⌜ ((g : G.Geometry) (v : List ℕ) (st : Store) (counts : List ℕ) (next : ℕ) → Known g (stateOf current saved st) → Counted (st .words) counts
+    ensures { λ r. ⌜ ((g : G.Geometry) (v : List ℕ) (st : Store) (counts : List ℕ) (next : ℕ) → Known g (stateOf current saved st) → TableTrue (st .words) counts
         → Answered (perform (config g v) (stateOf current saved st) RESTOREFH next)
         r st counts at (now (reply .entry)) (now (reply .exit))) ⌝ }
 {
@@ -97,7 +97,7 @@ pub fn put_fh(
     at: usize,
 ) -> Answer
     requires { ⌜ at + 8 ≤ length (now reply) ⌝ }
-    ensures { λ r. ⌜ ((v : List ℕ) (st : Store) (counts : List ℕ) (next : ℕ) → Known (geometryOf g) (stateOf current saved st) → Counted (st .words) counts
+    ensures { λ r. ⌜ ((v : List ℕ) (st : Store) (counts : List ℕ) (next : ℕ) → Known (geometryOf g) (stateOf current saved st) → TableTrue (st .words) counts
         → Answered (perform (config (geometryOf g) v) (stateOf current saved st) (meaning (now (s .entry)) (Operation.PutFh d)) next)
         r st counts at (now (reply .entry)) (now (reply .exit))) ⌝ }
 {

@@ -13,7 +13,7 @@ ghost use Rattle.rules.specs.Store.{Store};
 ghost use Rattle.rules.specs.Read.{granted};
 ghost use Rattle.rules.specs.Operation.{readReply, readPlusReply, seekReply};
 ghost use Rattle.rules.specs.Run.{State, errors, perform, config};
-ghost use Rattle.store.specs.Plan.{Counted};
+ghost use Rattle.store.specs.Plan.{TableTrue};
 ghost use Rattle.compound.specs.Decoded.{meaning};
 ghost use Rattle.compound.specs.Runner.{stateOf, Known, Shows, Answered};
 use crate::answer::Answer;
@@ -152,7 +152,7 @@ pub fn read(
     at: usize,
 ) -> Answer
     requires { ⌜ Known (geometryOf g) (stateOf current saved (record { sizes = now sizes; words = now words; mem = now mem })) × (at + 2179 ≤ length (now reply)) ⌝ }
-    ensures { λ r. ⌜ ((v counts : List ℕ) (next : ℕ) → Counted (now (words .entry)) counts → Answered
+    ensures { λ r. ⌜ ((v counts : List ℕ) (next : ℕ) → TableTrue (now (words .entry)) counts → Answered
         (perform (config (geometryOf g) v) (stateOf current saved (record { sizes = now (sizes .entry); words = now (words .entry); mem = now (mem .entry) }))
         (meaning (now (s .entry)) (Operation.Read a)) next)
         r (record { sizes = now (sizes .entry); words = now (words .entry); mem = now (mem .entry) }) counts at (now (reply .entry)) (now (reply .exit))) ⌝ }
@@ -200,7 +200,7 @@ pub fn read_plus(
     at: usize,
 ) -> Answer
     requires { ⌜ Known (geometryOf g) (stateOf current saved (record { sizes = now sizes; words = now words; mem = now mem })) × (at + 2179 ≤ length (now reply)) ⌝ }
-    ensures { λ r. ⌜ ((v counts : List ℕ) (next : ℕ) → Counted (now (words .entry)) counts → Answered
+    ensures { λ r. ⌜ ((v counts : List ℕ) (next : ℕ) → TableTrue (now (words .entry)) counts → Answered
         (perform (config (geometryOf g) v) (stateOf current saved (record { sizes = now (sizes .entry); words = now (words .entry); mem = now (mem .entry) }))
         (meaning (now (s .entry)) (Operation.ReadPlus a)) next)
         r (record { sizes = now (sizes .entry); words = now (words .entry); mem = now (mem .entry) }) counts at (now (reply .entry)) (now (reply .exit))) ⌝ }
@@ -265,7 +265,7 @@ pub fn seek(
     at: usize,
 ) -> Answer
     requires { ⌜ Known (geometryOf g) (stateOf current saved (record { sizes = now sizes; words = now words; mem = now mem })) × (at + 2179 ≤ length (now reply)) ⌝ }
-    ensures { λ r. ⌜ ((v counts : List ℕ) (next : ℕ) → Counted (now (words .entry)) counts → Answered
+    ensures { λ r. ⌜ ((v counts : List ℕ) (next : ℕ) → TableTrue (now (words .entry)) counts → Answered
         (perform (config (geometryOf g) v) (stateOf current saved (record { sizes = now (sizes .entry); words = now (words .entry); mem = now (mem .entry) }))
         (meaning (now (s .entry)) (Operation.Seek a)) next)
         r (record { sizes = now (sizes .entry); words = now (words .entry); mem = now (mem .entry) }) counts at (now (reply .entry)) (now (reply .exit))) ⌝ }

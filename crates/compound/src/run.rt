@@ -1,14 +1,13 @@
 // The operations of a compound, one after the other, up to the first that fails.
-ghost use mathlib.Core.Path.{_≡_};
 ghost use mathlib.Core.List.{List};
-ghost use Prim.Native.Nat.{ℕ, _+_, _*_, _<_, _≤_};
+ghost use Prim.Native.Nat.{ℕ, _+_, _<_, _≤_};
 ghost use lib.ListN.{length};
 ghost use Rattle.store.specs.Lent.{geometryOf};
 ghost use Rattle.rules.specs.Store.{Store};
 ghost use Rattle.rules.specs.Operation.{bad, items};
 ghost use Rattle.rules.specs.Run.{failed, perform, reached, config};
 ghost use Rattle.rules.specs.Calls.{fresh};
-ghost use Rattle.store.specs.Plan.{Counted};
+ghost use Rattle.store.specs.Plan.{TableTrue};
 ghost use Rattle.compound.specs.Decoded.{meaning};
 ghost use Rattle.compound.specs.Runner.{stateOf, Runs, Answered, eventAt, Turned, RunsAll, RanAll};
 use crate::answer::Answer;
@@ -187,7 +186,7 @@ fn step(
 // The result of what does not decode: number and status.
 fn stop(number: u32, status: u32, r: Progress, reply: &mut [u8]) -> Progress
     requires { ⌜ (r .out + 8 ≤ length (now reply)) × (r .count < 12) ⌝ }
-    ensures { λ r′. ⌜ ((st : Store) (counts : List ℕ) → Counted (st .words) counts
+    ensures { λ r′. ⌜ ((st : Store) (counts : List ℕ) → TableTrue (st .words) counts
         → Turned (failed (bad number status) (stateOf (r .current) (r .saved) st) status)
         r r′ st counts (now (reply .entry)) (now (reply .exit))) ⌝ }
 {

@@ -13,7 +13,7 @@ use lib.Dec.{ltb, eqb}
 use borrow.Author.Tests.{lt-ltb, le-ltb, eq-eqb, ne-eqb}
 use Rattle.xdr.specs.Bytes.{splice, Written}
 use Rattle.rules.specs.Store.{Geometry, Store}
-use Rattle.rules.specs.Calls.{Outcome, Call, answer, Contract}
+use Rattle.rules.specs.Calls.{Outcome, answer, Contract}
 use Rattle.rules.specs.Line.{hexLine, requestOf, frameGeometry, frameCall, refusalLine, answerRequest, answerLine}
 use Rattle.rules.proofs.AnswerLaws.{refused-number, reply-bound, reply-length}
 use Rattle.rules.specs.Run.{config}

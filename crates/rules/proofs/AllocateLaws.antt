@@ -6,17 +6,16 @@ use mathlib.Core.Logic.{_≢_}
 use native.Mathlib.Nat.{mul-le-mul-right}
 use native.Mathlib.Decide.{ℕ-discrete}
 use native.Mathlib.Omega.{arith}
-use borrow.Author.Tests.{lt-leb}
 use lib.ListN.{length, getD, set, length-set}
 use lib.Seq.{getD-set-same, getD-set-other}
 use Rattle.rules.specs.Lists.{each}
 use Rattle.rules.specs.Store.{Geometry, Store, word, sizeOf, wordOf, slotByte, byteAt}
 use Rattle.rules.specs.Edit.{firstSlot, slotCount, edited, allocating}
-use Rattle.rules.proofs.Steps.{reserve, planAllocate}
+use Rattle.rules.proofs.EditSteps.{reserve, planAllocate}
 use Rattle.rules.proofs.EditForms.{allocate-is}
 use Rattle.rules.proofs.PlanLaws.{each-keeps, set-keeps}
-use Rattle.rules.proofs.ViewLaws.{Local, plan-before}
-use Rattle.rules.proofs.FileLaws.{Sound, Edited, other-words, slots-fit, plan-past}
+use Rattle.rules.proofs.SlotByteLaws.{Local, plan-before}
+use Rattle.rules.proofs.SoundStore.{Sound, Edited, other-words, slots-fit, plan-past}
 
 -- slots of two words that hold the same block show the same bytes
 pub same-block : (g : Geometry) (m : List ℕ) (w x j : ℕ) → w / 2 ≡ x / 2 → slotByte g m w j ≡ slotByte g m x j

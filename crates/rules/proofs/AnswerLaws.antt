@@ -1,11 +1,10 @@
 -- The call that serves a compound: it is refused, or its header was read; what comes of it, what it ran, and what its reply says.
-use Prim.Native.Nat.{ℕ, zero, suc, _+_, _≤_, _<_}
+use Prim.Native.Nat.{ℕ, zero, suc, _+_, _≤_}
 use mathlib.Core.Path.{_≡_, refl, sym, ap, _∙_, subst}
 use mathlib.Core.Bool.{Bool, true, false, _&&_, not}
-use mathlib.Core.Option.{Option, none, some}
+use mathlib.Core.Option.{none, some}
 use mathlib.Core.List.{List, [], _∷_, _++_}
 use mathlib.Core.Logic.{_≢_, _⊎_, inl, inr}
-use native.Mathlib.Nat.{zero-add}
 use native.Mathlib.Omega.{arith}
 use borrow.Author.Tests.{eqb-true, ltb-false, not-false}
 use lib.ListN.{length, drop, length-append, length-drop}
@@ -15,15 +14,15 @@ use Rattle.xdr.specs.Encode.{concatMap}
 use Rattle.xdr.specs.Decode.{Parsed, got, fault}
 use Rattle.xdr.proofs.RoundTrip.{Stands, stands-first, stands-rest}
 use Rattle.rules.specs.Lists.{first}
-use Rattle.rules.specs.Store.{Geometry, Store, goodGeometry, goodLengths, sound}
+use Rattle.rules.specs.Store.{Store, goodGeometry, goodLengths, sound}
 use Rattle.rules.specs.Operation.{Header, header}
 use Rattle.rules.specs.Run.{Event}
-use Rattle.rules.specs.Calls.{fresh, headerStatus, compound, resultBytes, lastStatus, lastStore, replyHead, replyBytes, Call, Outcome, refuse, served, refusals, refusal, answer}
-use Rattle.rules.specs.Claim.{Ran, ranCall, serving, events, Results, Says, Refused}
+use Rattle.rules.specs.Calls.{fresh, headerStatus, compound, resultBytes, lastStatus, lastStore, replyHead, replyBytes, Call, refuse, served, refusals, refusal, answer}
+use Rattle.rules.specs.Claim.{ranCall, serving, events, Results, Says, Refused}
 use Rattle.rules.proofs.BoolLaws.{and-left, and-right}
 use Rattle.rules.proofs.FirstLaws.{all-clear}
 use Rattle.rules.proofs.GeometryLaws.{Good, good, block-pos}
-use Rattle.rules.proofs.FileLaws.{Sound}
+use Rattle.rules.proofs.SoundStore.{Sound}
 use Rattle.rules.proofs.SoundLaws.{sound-facts}
 use Rattle.rules.proofs.ItemLaws.{header-reads}
 use Rattle.rules.proofs.ChainLaws.{Chain}

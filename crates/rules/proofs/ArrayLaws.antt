@@ -17,8 +17,8 @@ use Rattle.rules.specs.Lists.{ceilDiv}
 use Rattle.rules.specs.Store.{Geometry, Store, sizeOf, byteAt, content, need}
 use Rattle.rules.specs.Edit.{within, edited, allocating, cloning, copying, deallocating, writing}
 use Rattle.rules.specs.Claim.{extend, arrayWrite, arrayZero}
-use Rattle.rules.proofs.ViewLaws.{length-tab, getD-tab}
-use Rattle.rules.proofs.FileLaws.{ceil-le, le-ceil, Sound, Edited}
+use Rattle.rules.proofs.SlotByteLaws.{length-tab, getD-tab}
+use Rattle.rules.proofs.SoundStore.{ceil-le, le-ceil, Sound, Edited}
 use Rattle.rules.proofs.WriteLaws.{inside, outside, write-bytes, write-edited}
 use Rattle.rules.proofs.AllocateLaws.{allocate-bytes, allocate-edited}
 use Rattle.rules.proofs.DeallocateLaws.{deallocate-bytes, deallocate-edited}

@@ -14,8 +14,8 @@ use Rattle.rules.specs.Store.{Geometry, Store, sizeOf, byteAt, bytesFrom
 use Rattle.rules.specs.Read.{Piece, join, pieces, granted, readCount, readPieces}
 use Rattle.rules.specs.Operation.{holePiece, dataPiece, pieceBytes, readReply, readPlusReply, seekReply, writeReply, copyReply}
 use Rattle.rules.specs.Claim.{laid}
-use Rattle.rules.proofs.FileLaws.{div-le, div-ge, Sound}
-use Rattle.rules.proofs.ViewLaws.{length-tab}
+use Rattle.rules.proofs.SoundStore.{div-le, div-ge, Sound}
+use Rattle.rules.proofs.SlotByteLaws.{length-tab}
 use Rattle.rules.proofs.ReadLaws.{pieces-none, read-plus-laid}
 
 pub pad-most : (n m : ℕ) → n ≤ m → m % 4 ≡ 0 → n + padBytes n ≤ m

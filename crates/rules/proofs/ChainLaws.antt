@@ -1,15 +1,13 @@
 -- The operations reached, one after the other from a sound store on: what each of them keeps, leaves and answers.
 use Prim.Native.Nat.{ℕ, zero, suc, _+_, _-_, _*_, _%_, _≤_, _<_}
 use mathlib.Core.Path.{_≡_, refl, sym, ap, _∙_, subst}
-use mathlib.Core.Bool.{Bool, true, false, cond, _||_}
-use mathlib.Core.Option.{Option, none, some}
-use mathlib.Core.List.{List, [], _∷_, _++_, List·Memᴰ, List·Memᴰ·not-nil, List·Memᴰ·cases-cons, List·Memᴰ·head, List·Memᴰ·tail}
+use mathlib.Core.Bool.{Bool, true, false, cond}
+use mathlib.Core.Option.{none, some}
+use mathlib.Core.List.{List, [], _∷_, _++_, List·Memᴰ, List·Memᴰ·not-nil, List·Memᴰ·cases-cons}
 use mathlib.Core.Logic.{_↔_, _≢_, _⊎_, inl, inr}
-use native.Mathlib.Nat.{lt-of-mul-lt-mul-right}
 use native.Mathlib.Omega.{arith}
-use borrow.Author.Tests.{le-leb, lt-leb, leb-false, eqb-false, ne-eqb}
+use borrow.Author.Tests.{lt-leb, leb-false, ne-eqb}
 use lib.ListN.{length, getD, take, drop, length-append}
-use lib.Dec.{leb, eqb}
 use Rattle.xdr.specs.Encode.{u32}
 use Rattle.xdr.proofs.EncodeLaws.{length-u32}
 use Rattle.rules.specs.Lists.{first}
@@ -17,18 +15,17 @@ use Rattle.rules.specs.Store.{Geometry, Store, sizeOf, wordOf, need, fit
 use Rattle.rules.specs.Edit.{Edit}
 use Rattle.rules.specs.Read.{atEnd}
 use Rattle.rules.specs.Operation.{NOSPC, Op, READ, READ-PLUS, WRITE, ALLOCATE, opNumber, Item, op, bad, readResult, readPlusReply}
-use Rattle.rules.specs.Run.{State, noFile, fileOf, zeroId, errors, Config, config, Does, sets, shows, edits, does, editOf, effect, body, Event, failed, countedAfter, perform, reached}
+use Rattle.rules.specs.Run.{State, noFile, fileOf, zeroId, errors, config, does, editOf, effect, body, Event, failed, countedAfter, perform, reached}
 use Rattle.rules.specs.Calls.{itemNumber, resultBytes, lastStore}
-use Rattle.rules.specs.Claim.{InOrder, OK, Current, setsCurrent, lastSet, Is, editDone, arrayAfter, Leaves, SlotOf, Edits, GivesBack, RightAfter, ReadsBack, NospcExactly}
+use Rattle.rules.specs.Claim.{InOrder, OK, Current, setsCurrent, lastSet, editDone, arrayAfter, Leaves, SlotOf, Edits, GivesBack, ReadsBack, NospcExactly}
 use Rattle.rules.proofs.GeometryLaws.{Good, file-small}
-use Rattle.rules.proofs.FileLaws.{Sound}
+use Rattle.rules.proofs.SoundStore.{Sound}
 use Rattle.rules.proofs.ArrayLaws.{length-content}
 use Rattle.rules.proofs.PieceLaws.{pieces-right}
-use Rattle.rules.proofs.EditLaws.{Back}
-use Rattle.rules.proofs.ErrorLaws.{known-numbers, errors-most, not-nospc, allocate-clear}
+use Rattle.rules.proofs.ErrorLaws.{allocate-clear}
 use Rattle.rules.proofs.BodyLaws.{any-file}
-use Rattle.rules.proofs.OperationLaws.{Ready, file-ok, effect-ready, effect-same, effect-r, effect-content, effect-current, setsFile, body-most, allocate-done, write-passes, write-has-room, write-done, read-passes, read-room, read-body, Performed, refused, nospc, done, performed, performed-item, performed-before}
-use Rattle.rules.proofs.ItemLaws.{BadKnown, Known, AllKnown}
+use Rattle.rules.proofs.OperationLaws.{Ready, op-facts, errors-most, not-nospc, effect-ready, effect-same, effect-r, effect-content, effect-current, setsFile, body-most, allocate-done, write-passes, write-has-room, write-done, read-passes, read-room, read-body, Performed, refused, nospc, done, performed, performed-item, performed-before}
+use Rattle.rules.proofs.ItemLaws.{BadKnown, AllKnown}
 
 -- ---- an operation reached in a sound state
 
@@ -106,10 +103,10 @@ module _ (g : Geometry) (bd : Good g) where
   step-known (decoded v x o next hv r p) = go p
     where
       low : opNumber o ≤ 10044
-      low = omega (arith, known-numbers g x o .number)
+      low = omega (arith, op-facts g wide x r o .number)
 
       go : {z : Event} → Performed (config g v) x o next z → ResultKnown z
-      go (refused e h) = record { number = low; status = omega (arith, errors-most g x o); size = bare-size _ _ }
+      go (refused e h) = record { number = low; status = omega (arith, errors-most g wide x r o); size = bare-size _ _ }
       go (nospc h l) = record { number = low; status = omega arith; size = bare-size _ _ }
       go (done h l) = record { number = low; status = omega arith; size = simp (length-append, length-u32) (omega (arith, body-most g wide x r v hv o h)) }
   step-known (undecoded x k e r b) = record { number = b .number; status = b .status-most; size = bare-size _ _ }
@@ -124,15 +121,15 @@ module _ (g : Geometry) (bd : Good g) where
 
   -- ---- NOSPC exactly
 
-  exactly : {v : List ℕ} {x : State} {o : Op} {next : ℕ} {z : Event} → Performed (config g v) x o next z
+  exactly : {v : List ℕ} {x : State} {o : Op} {next : ℕ} {z : Event} → Ready g x → Performed (config g v) x o next z
       → (z .status ≡ NOSPC) ↔ ((first (errors g x o) ≡ 0) × (fitsPool (g .N) (countedAfter g x o) ≡ false))
-  exactly {x = x} {o = o} (refused e h) = (λ s. absurd (not-nospc g x o (h ∙ s)), λ q. absurd (omega (arith, h, q .0)))
-  exactly {x = x} {o = o} (nospc h l) = (λ s. (h, lt-leb (need (countedAfter g x o)) (g .N) l), λ q. refl)
-  exactly {x = x} {o = o} (done h l) = (λ (s : _≡_ {A = ℕ} 0 NOSPC). absurd (omega arith), λ q. absurd (omega (arith, l, leb-false (need (countedAfter g x o)) (g .N) (q .1))))
+  exactly {x = x} {o = o} r (refused e h) = (λ s. absurd (not-nospc g wide x r o (h ∙ s)), λ q. absurd (omega (arith, h, q .0)))
+  exactly {x = x} {o = o} r (nospc h l) = (λ s. (h, lt-leb (need (countedAfter g x o)) (g .N) l), λ q. refl)
+  exactly {x = x} {o = o} r (done h l) = (λ (s : _≡_ {A = ℕ} 0 NOSPC). absurd (omega arith), λ q. absurd (omega (arith, l, leb-false (need (countedAfter g x o)) (g .N) (q .1))))
 
   pub step-nospc : {z : Event} → Step g z → NospcExactly g z
   step-nospc {z} (decoded v x o next hv r p) = record {
-    decoded = λ o′ next′ q. rw (performed-before p, ← op-inj (sym (performed-item p) ∙ q)) (exactly p);
+    decoded = λ o′ next′ q. rw (performed-before p, ← op-inj (sym (performed-item p) ∙ q)) (exactly r p);
     undecoded = λ k e q s. op≢bad (sym (performed-item p) ∙ q);
   }
   step-nospc (undecoded x k e r b) = record {

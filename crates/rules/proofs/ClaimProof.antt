@@ -1,5 +1,5 @@
 -- The claim about lists of calls, proved: of any entry whose calls each run a chain of operations, and so of the one that serves compounds.
-use Prim.Native.Nat.{ℕ, zero, suc, _+_, _-_, _*_, _%_, _≤_, _<_}
+use Prim.Native.Nat.{ℕ, _+_, _*_, _%_, _≤_, _<_}
 use mathlib.Core.Path.{_≡_, refl, sym, ap, _∙_, subst}
 use mathlib.Core.Bool.{true, _&&_}
 use mathlib.Core.Option.{Option, none, some}
@@ -7,19 +7,17 @@ use mathlib.Core.List.{List, [], _∷_, _++_, List·Memᴰ, List·Memᴰ·not-ni
 use mathlib.Core.Logic.{_≢_, _⊎_, inl, inr}
 use native.Mathlib.Nat.{lt-of-mul-lt-mul-right}
 use native.Mathlib.Omega.{arith}
-use lib.ListN.{length}
-use Rattle.rules.specs.Store.{Geometry, goodGeometry, Store, wordOf, goodLengths, sound}
+use Rattle.rules.specs.Store.{Geometry, Store, wordOf, goodLengths, sound}
 use Rattle.rules.specs.Edit.{Edit}
 use Rattle.rules.specs.Operation.{Header}
 use Rattle.rules.specs.Run.{State, Event}
 use Rattle.rules.specs.Calls.{fresh, lastStore, Call, Outcome, Gives, answer}
-use Rattle.rules.specs.Claim.{Ran, Entry, ranCall, serving, Each, machine, events, history, Says, Refused, InOrder, OK, lastSet, Leaves, Edits, GivesBack, Between, Allocated, ReadAfter, ReadsBack, NospcExactly, Claim}
+use Rattle.rules.specs.Claim.{Ran, Entry, ranCall, serving, Each, machine, events, history, Says, Refused, InOrder, OK, lastSet, Edits, GivesBack, Between, Allocated, ReadAfter, ReadsBack, Claim}
 use Rattle.rules.proofs.BoolLaws.{and-left, and-right, and-both}
 use Rattle.rules.proofs.GeometryLaws.{Good, good, block-pos}
-use Rattle.rules.proofs.FileLaws.{Sound}
+use Rattle.rules.proofs.SoundStore.{Sound}
 use Rattle.rules.proofs.SoundLaws.{sound-facts, lengths-test, sound-test}
-use Rattle.rules.proofs.OperationLaws.{Ready}
-use Rattle.rules.proofs.ChainLaws.{Step, Chain, nil, cons, step-after, step-before, chain-start, chain-order, chain-end, chain-current, step-nospc, step-leaves, step-keeps, as-op, Has, step-has, Backed, allocated, write-ok, wrote-has, read-has}
+use Rattle.rules.proofs.ChainLaws.{Step, Chain, nil, cons, step-before, chain-order, chain-end, chain-current, step-nospc, step-leaves, step-keeps, as-op, Has, step-has, allocated, write-ok, wrote-has, read-has}
 use Rattle.rules.proofs.AnswerLaws.{Accepted, Refusal, accepted-or-refused, refused-call, refused-number, zs, ran-is, events-are, accepted-chain, store-is, number-is, accepted-says}
 use Rattle.rules.proofs.ReplyLaws.{fresh-ready}
 

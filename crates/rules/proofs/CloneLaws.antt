@@ -7,18 +7,17 @@ use mathlib.Core.Logic.{_≢_, _⊎_, inl, inr}
 use native.Mathlib.Nat.{le-refl, mul-le-mul-right, le-dest, div-add-mod', mod-lt, mul-add-div-right, mul-add-mod-self-right, div-eq-of-lt, mod-eq-of-lt, le-div-iff-mul-le}
 use native.Mathlib.Decide.{ℕ-discrete, decLe, decLt}
 use native.Mathlib.Omega.{arith}
-use borrow.Author.Tests.{lt-leb}
 use lib.ListN.{length, getD, set, length-set}
 use lib.Seq.{getD-set-same, getD-set-other}
 use Rattle.rules.specs.Lists.{ceilDiv, each}
 use Rattle.rules.specs.Store.{Geometry, Store, word, sizeOf, wordOf, slotByte, byteAt}
 use Rattle.rules.specs.Edit.{within, edited, cloning}
-use Rattle.rules.proofs.Steps.{share, planClone}
+use Rattle.rules.proofs.EditSteps.{share, planClone}
 use Rattle.rules.proofs.EditForms.{clone-is}
 use Rattle.rules.proofs.WriteLaws.{inside, outside}
 use Rattle.rules.proofs.PlanLaws.{InPool, each-keeps, SameR, each-sameR, share-sameR, inPool-set}
-use Rattle.rules.proofs.ViewLaws.{Local, plan-before, plan-after}
-use Rattle.rules.proofs.FileLaws.{div-lt, le-ceil, ceil-behind, Sound, Edited, apart}
+use Rattle.rules.proofs.SlotByteLaws.{Local, plan-before, plan-after}
+use Rattle.rules.proofs.SoundStore.{div-lt, le-ceil, ceil-behind, Sound, Edited, apart}
 use Rattle.rules.proofs.AllocateLaws.{same-block}
 
 pub share-local : (from to : ℕ) → Local to (share from to)

@@ -7,18 +7,18 @@ use mathlib.Core.Logic.{_≢_, inr}
 use native.Mathlib.Nat.{le-trans, mul-le-mul-right, div-add-mod', mod-lt}
 use native.Mathlib.Decide.{ℕ-discrete, decLe}
 use native.Mathlib.Omega.{arith}
-use borrow.Author.Tests.{lt-leb, leb-true, ltb-true}
+use borrow.Author.Tests.{leb-true, ltb-true}
 use lib.ListN.{length, getD, set, length-set}
 use lib.Seq.{getD-set-same, getD-set-other}
 use lib.Dec.{leb, ltb}
 use Rattle.rules.specs.Lists.{each}
 use Rattle.rules.specs.Store.{Geometry, Store, isHole, sizeOf, wordOf, used, owed, slotByte, byteAt}
 use Rattle.rules.specs.Edit.{within, firstSlot, slotCount, givesBack, edited, deallocating}
-use Rattle.rules.proofs.Steps.{ownUnless, giveBack, skips, planGiveBack, planDeallocate, zeroBytes}
+use Rattle.rules.proofs.EditSteps.{ownUnless, giveBack, skips, planGiveBack, planDeallocate, zeroBytes}
 use Rattle.rules.proofs.EditForms.{deallocate-is}
 use Rattle.rules.proofs.PlanLaws.{InPool, each-keeps, SameR, each-sameR, ownUnless-sameR, plan-pool}
-use Rattle.rules.proofs.ViewLaws.{Local, plan-before, own-local, Wrote, wrote}
-use Rattle.rules.proofs.FileLaws.{div-lt, Sound, Edited, other-words, slots-fit, plan-past, slot-in}
+use Rattle.rules.proofs.SlotByteLaws.{Local, plan-before, own-local, Wrote, wrote}
+use Rattle.rules.proofs.SoundStore.{div-lt, Sound, Edited, other-words, slots-fit, plan-past, slot-in}
 use Rattle.rules.proofs.WriteLaws.{outside, inside, file-mine, file-other}
 use Rattle.rules.proofs.BoolLaws.{and-left, and-right}
 

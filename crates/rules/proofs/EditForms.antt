@@ -1,19 +1,17 @@
--- The plan and the bytes of each edit, as Steps has them, are those of the rules.
+-- The plan and the bytes of each edit, as EditSteps has them, are those of the rules.
 use Prim.Native.Nat.{ℕ, zero, suc, _+_, _-_, _*_, _/_, _%_, _≤_, _<_, max}
 use mathlib.Core.Path.{_≡_, refl, sym, ap, _∙_}
 use mathlib.Core.Bool.{Bool, true, false, cond, _||_, not}
 use mathlib.Core.List.{List}
-use mathlib.Core.Logic.{_≢_}
 use native.Mathlib.Nat.{add-zero, add-suc, add-assoc, add-sub-cancel-left, mul-add-div-right, div-add-mod'}
-use native.Mathlib.Decide.{ℕ-discrete}
 use native.Mathlib.Omega.{arith}
 use borrow.Author.Tests.{le-leb, lt-leb}
 use lib.ListN.{getD, set}
 use lib.Seq.{getD-set-other}
 use Rattle.rules.specs.Lists.{each, ceilDiv}
 use Rattle.rules.specs.Store.{Geometry, Store, word, isHole, sizeOf, wordOf, byteAt}
-use Rattle.rules.specs.Edit.{Edit, Kind, owns, given, shares, reserved, stays, within, firstSlot, slotCount, givesBack, isGiven, kindOf, become, pass, plan, storeSlot, editBytes, edited, writing, copying, cloning, allocating, deallocating}
-use Rattle.rules.proofs.Steps.{own, ownUnless, share, reserve, giveBack, storeAt, storeUnless, planWrite, writeBytes, planAllocate, planClone, planGiveBack, skips, planDeallocate, zeroBytes}
+use Rattle.rules.specs.Edit.{Edit, owns, given, shares, reserved, stays, within, firstSlot, slotCount, givesBack, isGiven, kindOf, become, pass, plan, storeSlot, editBytes, edited, writing, copying, cloning, allocating, deallocating}
+use Rattle.rules.proofs.EditSteps.{own, share, reserve, giveBack, storeAt, planWrite, writeBytes, planAllocate, planClone, planGiveBack, skips, planDeallocate, zeroBytes}
 use Rattle.rules.proofs.PlanLaws.{each-ext}
 
 -- ---- the store after an edit: of no bytes, and of some

@@ -1,27 +1,25 @@
 -- Any edit that no error forbids: the store stays sound and every other file as it was; a reserved slot stays reserved unless it is given
 -- back; and each file's content is its array, edited.
-use Prim.Native.Nat.{ℕ, _+_, _-_, _*_, _%_, _≤_, _<_}
+use Prim.Native.Nat.{ℕ, _+_, _*_, _%_, _≤_, _<_}
 use mathlib.Core.Path.{_≡_, refl, sym, ap, _∙_}
-use mathlib.Core.Bool.{true, cond}
-use mathlib.Core.List.{List}
+use mathlib.Core.Bool.{true}
 use mathlib.Core.Logic.{_≢_, _⊎_, inl, inr}
 use native.Mathlib.Nat.{add-sub-cancel-left, lt-of-mul-lt-mul-right}
 use native.Mathlib.Decide.{ℕ-discrete, decLt}
 use native.Mathlib.Omega.{arith}
 use lib.ListN.{getD}
-use lib.Dec.{eqb}
 use Rattle.rules.specs.Lists.{tabulate}
 use Rattle.rules.specs.Store.{Geometry, Store, sizeOf, byteAt, content, need}
 use Rattle.rules.specs.Edit.{Edit, deallocate, givesBack, edited, writing, copying, cloning, allocating, deallocating}
-use Rattle.rules.specs.Claim.{arrayWrite, arrayAct, arrayEdit}
-use Rattle.rules.proofs.ViewLaws.{length-tab, getD-tab}
-use Rattle.rules.proofs.FileLaws.{Sound, Edited, still-sound, apart}
+use Rattle.rules.specs.Claim.{arrayAct, arrayEdit}
+use Rattle.rules.proofs.SlotByteLaws.{length-tab, getD-tab}
+use Rattle.rules.proofs.SoundStore.{Sound, Edited, still-sound, apart}
 use Rattle.rules.proofs.EditForms.{edited-none, write-is, copy-is-write, deallocate-is}
 use Rattle.rules.proofs.WriteLaws.{write-edited, write-r}
 use Rattle.rules.proofs.AllocateLaws.{allocate-edited, allocate-r}
 use Rattle.rules.proofs.CloneLaws.{clone-edited, clone-r}
 use Rattle.rules.proofs.DeallocateLaws.{deallocate-edited, deallocate-r, Whole, whole-is}
-use Rattle.rules.proofs.ArrayLaws.{EditsArray, write-content, allocate-content, deallocate-content, copy-content, arrayClone, clone-content}
+use Rattle.rules.proofs.ArrayLaws.{write-content, allocate-content, deallocate-content, copy-content, arrayClone, clone-content}
 
 -- ---- what no error says of an edit
 

@@ -1,8 +1,7 @@
 -- An operation's errors: their numbers, and what it says, by name, that there is none.
 use Prim.Native.Nat.{ℕ, _+_, _-_, _*_, _%_, _^_, _≤_, _<_}
-use mathlib.Core.Path.{_≡_, refl, sym, ap, _∙_}
+use mathlib.Core.Path.{_≡_, refl}
 use mathlib.Core.Bool.{Bool, true, false, cond, _&&_, _||_, not}
-use mathlib.Core.Option.{Option, none, some}
 use mathlib.Core.List.{List, [], _∷_}
 use mathlib.Core.Logic.{_≢_, _⊎_, inl, inr}
 use native.Mathlib.Omega.{arith}
@@ -12,37 +11,18 @@ use lib.Dec.{leb, ltb, eqb}
 use Rattle.xdr.specs.Decode.{value}
 use Rattle.rules.specs.Lists.{first}
 use Rattle.rules.specs.Store.{Geometry, Store, sizeOf}
-use Rattle.rules.specs.Operation.{NOSPC, Op, GETFH, RESTOREFH, SAVEFH, PUTFH, READ, READ-PLUS, WRITE, ALLOCATE, DEALLOCATE, SEEK, COPY, CLONE, opNumber}
+use Rattle.rules.specs.Operation.{NOSPC, PUTFH, WRITE, ALLOCATE, DEALLOCATE, COPY, CLONE}
 use Rattle.rules.specs.Run.{State, noFile, fileOf, sourceCount, pastSource, overlap, uneven, errors}
 use Rattle.rules.proofs.BoolLaws.{and-left, and-right, and-cases, or-left, or-right, not-is}
 use Rattle.rules.proofs.FirstLaws.{all-clear}
 
--- ---- the numbers: statuses below 10,091 that are neither 0 nor NOSPC, operation numbers up to 71
+-- ---- the numbers: statuses of at most 10,090, none of them NOSPC
 
 abbrev pub known : List (Bool × ℕ) → Bool
 known [] = true
 known (t ∷ ts) = (leb (t .1) 10090 && not (eqb (t .1) NOSPC)) && known ts
 
-pub record KnownNumbers (g : Geometry) (x : State) (o : Op) : Type 0 where
-  pub statuses : known (errors g x o) ≡ true
-  pub number : opNumber o ≤ 71
-
-pub known-numbers : (g : Geometry) (x : State) (o : Op) → KnownNumbers g x o
-unfolding errors
-known-numbers g x GETFH = record { statuses = refl; number = omega arith }
-known-numbers g x RESTOREFH = record { statuses = refl; number = omega arith }
-known-numbers g x SAVEFH = record { statuses = refl; number = omega arith }
-known-numbers g x (PUTFH h) = record { statuses = refl; number = omega arith }
-known-numbers g x (READ i o n) = record { statuses = refl; number = omega arith }
-known-numbers g x (READ-PLUS i o n) = record { statuses = refl; number = omega arith }
-known-numbers g x (SEEK i o n) = record { statuses = refl; number = omega arith }
-known-numbers g x (WRITE i o s d) = record { statuses = refl; number = omega arith }
-known-numbers g x (ALLOCATE i o n) = record { statuses = refl; number = omega arith }
-known-numbers g x (DEALLOCATE i o n) = record { statuses = refl; number = omega arith }
-known-numbers g x (COPY i j s o n c y) = record { statuses = refl; number = omega arith }
-known-numbers g x (CLONE i j s o n) = record { statuses = refl; number = omega arith }
-
-first-known : (ts : List (Bool × ℕ)) → known ts ≡ true → (first ts ≤ 10090) × (first ts ≢ NOSPC)
+pub first-known : (ts : List (Bool × ℕ)) → known ts ≡ true → (first ts ≤ 10090) × (first ts ≢ NOSPC)
 first-known [] h = (omega arith, λ e. omega (arith, e))
 first-known (t ∷ ts) h = go (t .0) (first-known ts (and-right here (known ts) h))
   where
@@ -58,13 +38,6 @@ first-known (t ∷ ts) h = go (t .0) (first-known ts (and-right here (known ts) 
       eqb-false (t .1) NOSPC (not-true (eqb (t .1) NOSPC) (and-right (leb (t .1) 10090) (not (eqb (t .1) NOSPC)) this)),
     )
     go false ih = ih
-
-pub errors-most : (g : Geometry) (x : State) (o : Op) → first (errors g x o) ≤ 10090
-errors-most g x o = first-known (errors g x o) (known-numbers g x o .statuses) .0
-
--- no earlier error is NOSPC
-pub not-nospc : (g : Geometry) (x : State) (o : Op) → first (errors g x o) ≢ NOSPC
-not-nospc g x o = first-known (errors g x o) (known-numbers g x o .statuses) .1
 
 -- ---- no error
 

@@ -8,7 +8,6 @@ use lib.ListN.{replicate}
 use Rattle.xdr.specs.Encode.{u32, u64}
 use Rattle.rules.specs.Operation.{SAVEFH, READ, READ-PLUS, WRITE, DEALLOCATE, COPY, CLONE, Op}
 use Rattle.rules.specs.Run.{zeroId}
-use Rattle.rules.proofs.Steps.{share}
 use Rattle.rules.proofs.Script.{Told, Run, machineTold, on, replied, result, put, rules}
 
 -- file 0 has three blocks, and file 1 shares the first

@@ -4,18 +4,18 @@ use Prim.Native.Nat.{ℕ, zero, suc}
 use mathlib.Core.Path.{_≡_, refl, sym, ap, _∙_}
 use mathlib.Core.Bool.{Bool, true, false, _&&_, not, true≢false}
 use mathlib.Core.Option.{Option, none, some}
-use mathlib.Core.List.{List, [], _∷_, _++_, map, List·Memᴰ, List·Memᴰ·not-nil, List·Memᴰ·cases-cons}
+use mathlib.Core.List.{List, [], _∷_, map, List·Memᴰ, List·Memᴰ·not-nil, List·Memᴰ·cases-cons}
 use mathlib.Core.Logic.{_⊎_, inl, inr}
 use native.Mathlib.Omega.{arith}
 use borrow.Author.Tests.{eq-eqb}
-use lib.ListN.{length, take, drop, replicate}
+use lib.ListN.{take, drop}
 use lib.Dec.{eqb}
 use Rattle.rules.specs.Store.{Geometry}
 use Rattle.rules.specs.Edit.{Edit, Act, write, copy, clone, allocate, deallocate}
 use Rattle.rules.specs.Operation.{Op, READ, bad}
 use Rattle.rules.specs.Run.{zeroId, Event, failed}
 use Rattle.rules.specs.Calls.{fresh}
-use Rattle.rules.specs.Claim.{serving, history, OK, editDone, Edits, GivesBack, RightAfter, Allocated, ReadAfter, ReadsBack}
+use Rattle.rules.specs.Claim.{serving, history, OK, editDone, GivesBack, RightAfter, Allocated, ReadAfter, ReadsBack}
 use Rattle.rules.proofs.BoolLaws.{and-left, and-right}
 use Rattle.rules.proofs.Script as S
 

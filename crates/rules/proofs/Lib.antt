@@ -12,7 +12,7 @@ pub mod EditForms
 pub mod EditLaws
 pub mod ErrorLaws
 pub mod Examples
-pub mod FileLaws
+pub mod SoundStore
 pub mod FirstLaws
 pub mod Frames
 pub mod GeometryLaws
@@ -28,7 +28,7 @@ pub mod ReplyLaws
 pub mod Script
 pub mod SeekLaws
 pub mod SoundLaws
-pub mod Steps
-pub mod ViewLaws
+pub mod EditSteps
+pub mod SlotByteLaws
 pub mod WriteLaws
 pub mod WrongServers

@@ -1,8 +1,8 @@
 -- What one slot's new word does to the counts. The need of a table, used + owed, is the reserved holes plus, for each block,
 -- a cost that depends on its holders and its reserved holders alone. So storing one word changes it at the old block and the new one.
-use Prim.Native.Nat.{ℕ, zero, suc, _+_, _-_, _/_, _%_, _≤_, _<_, max}
+use Prim.Native.Nat.{ℕ, zero, suc, _+_, _/_, _%_, _≤_, _<_, max}
 use mathlib.Core.Path.{_≡_, refl, sym, ap, _∙_}
-use mathlib.Core.Bool.{Bool, true, false, cond, _&&_, not}
+use mathlib.Core.Bool.{Bool, true, false, cond, _&&_}
 use mathlib.Core.List.{List, [], _∷_}
 use mathlib.Core.Logic.{_≢_, _⊎_, inl, inr}
 use native.Mathlib.Nat.{le-refl, eq-or-lt-of-le, zero-add}
@@ -12,7 +12,7 @@ use lib.ListN.{length, getD, set, length-set}
 use lib.Seq.{getD-set-same, set-set}
 use lib.Dec.{ltb, eqb}
 use Rattle.rules.specs.Lists.{bit, count, sumTo, countTo}
-use Rattle.rules.specs.Store.{word, isHole, isReserved, isShared, holds, holders, blockBound, used, owes, owed, freeFrom, lowestFree}
+use Rattle.rules.specs.Store.{isHole, isReserved, isShared, holds, holders, blockBound, used, owes, owed, freeFrom, lowestFree}
 use Rattle.rules.proofs.CountLaws.{count-set, sumTo-ext, sumTo-add, sumTo-point, sumTo-cut, sumTo-ge}
 
 -- ---- blocks from `blockBound` on have no holder
@@ -37,8 +37,8 @@ scan ws zero b = record { from = omega arith; to = omega arith; below = λ c h l
 scan ws (suc k) b = go (holders b ws) refl (scan ws k (suc b))
   where
     go : (n : ℕ) → holders b ws ≡ n → Scan ws k (suc b) (freeFrom ws k (suc b)) → Scan ws (suc k) b (freeFrom ws (suc k) b)
-    go zero e ih = rw (e, freeFrom) record { from = omega arith; to = omega arith; below = λ c h l. omega arith; at = λ h. e }
-    go (suc n) e ih = rw (e, freeFrom) record {
+    go zero e ih = rw (eq-eqb (holders b ws) 0 e, freeFrom) record { from = omega arith; to = omega arith; below = λ c h l. omega arith; at = λ h. e }
+    go (suc n) e ih = rw (ne-eqb (holders b ws) 0 (λ (q : holders b ws ≡ 0). omega arith), freeFrom) record {
       from = omega (arith, ih .from);
       to = omega (arith, ih .to);
       below = λ c h l. held c h l (eq-or-lt-of-le h);

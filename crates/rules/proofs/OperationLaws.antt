@@ -9,25 +9,25 @@ use native.Mathlib.Omega.{arith}
 use borrow.Author.Tests.{leb-true, leb-false, lt-leb, le-ltb}
 use lib.ListN.{length, getD, take, drop, length-take, length-drop}
 use lib.Seq.{ext-getD, getD-take, getD-drop}
-use lib.Dec.{leb, eqb}
+use lib.Dec.{eqb}
 use Rattle.xdr.specs.Encode.{u32, bool, opaque}
 use Rattle.xdr.specs.Decode.{value}
 use Rattle.xdr.proofs.EncodeLaws.{length-u32, length-opaque}
 use Rattle.rules.specs.Lists.{first, tabulate}
 use Rattle.rules.specs.Store.{Geometry, Store, sizeOf, wordOf, need, fitsPool, byteAt, content}
-use Rattle.rules.specs.Edit.{Edit, allocate, edited}
+use Rattle.rules.specs.Edit.{Edit, edited}
 use Rattle.rules.specs.Read.{readCount, atEnd}
 use Rattle.rules.specs.Operation.{NOSPC, Op, GETFH, RESTOREFH, SAVEFH, PUTFH, READ, READ-PLUS, WRITE, ALLOCATE, DEALLOCATE, SEEK, COPY, CLONE, opNumber, op, readReply, readResult}
 use Rattle.rules.specs.Run.{State, noFile, fileOf, zeroId, errors, Config, Does, sets, shows, edits, does, editOf, effect, body, Event, failed, countedAfter, perform}
 use Rattle.rules.specs.Claim.{arrayEdit}
-use Rattle.rules.proofs.ViewLaws.{length-tab, getD-tab}
+use Rattle.rules.proofs.SlotByteLaws.{length-tab, getD-tab}
 use Rattle.rules.proofs.BoolLaws.{and-false}
-use Rattle.rules.proofs.FileLaws.{Sound, slot-in, slot-bytes}
+use Rattle.rules.proofs.SoundStore.{Sound, slot-in, slot-bytes}
 use Rattle.rules.proofs.EditForms.{write-is}
 use Rattle.rules.proofs.WriteLaws.{inside, write-edited, write-bytes, write-room}
 use Rattle.rules.proofs.AllocateLaws.{allocate-reserved}
-use Rattle.rules.proofs.EditLaws.{Lawful, writes, copies, clones, allocates, deallocates, lawful-file, edit-change, Back, edit-r, edit-content}
-use Rattle.rules.proofs.ErrorLaws.{put-clear, write-clear, allocate-clear, deallocate-clear, copy-clear, clone-clear, meant}
+use Rattle.rules.proofs.EditLaws.{Lawful, writes, copies, clones, allocates, deallocates, edit-change, Back, edit-r, edit-content}
+use Rattle.rules.proofs.ErrorLaws.{known, first-known, put-clear, write-clear, allocate-clear, deallocate-clear, copy-clear, clone-clear, meant}
 use Rattle.rules.proofs.BodyLaws.{read-most, read-plus-most, seek-most, write-most, copy-most, any-file}
 
 -- ---- a sound state: handles name files
@@ -76,39 +76,84 @@ module _ (g : Geometry) (wide : 512 ≤ g .B) (x : State) (r : Ready g x) where
   saved-ok : noFile (x .saved) ≡ false → fileOf (x .saved) < g .F
   saved-ok e = file-ok (g .F) (x .saved) e (r .saved)
 
-  pub op-did : (o : Op) → first (errors g x o) ≡ 0 → Did g x (opNumber o) (does g x o)
-  unfolding does
-  op-did GETFH h = did-show {b = opaque (u32 (fileOf (x .current)))} (omega (arith, length-opaque (u32 (fileOf (x .current))), length-u32 (fileOf (x .current))))
-  op-did RESTOREFH h = did-set (r .saved) (r .saved) (λ e. absurd (true≢false e))
-  op-did SAVEFH h = did-set (r .current) (r .current) (λ e. refl)
-  op-did (PUTFH d) h = did-set (λ e q. rw (some-inj (value d) e q) at (put-clear g x d h .file)) (r .saved) (λ e. absurd (true≢false e))
-  op-did (READ i o n) h = did-show (read-most g pos (x .store) (fileOf (x .current)) o n)
-  op-did (READ-PLUS i o n) h = did-show (read-plus-most g pos (x .store) (fileOf (x .current)) wide (any-file g (x .store) (r .sound) (fileOf (x .current))) o n)
-  op-did (SEEK i o n) h = did-show (seek-most g (x .store) (fileOf (x .current)) o n)
-  op-did (WRITE i o s d) h =
-      let c = write-clear g x i o s d h in
-      did-edit (writes (fileOf (x .current)) o (length d) _ (current-ok (c .file)) (c .fits)) (write-most (length d))
-  op-did (ALLOCATE i o n) h =
-      let c = allocate-clear g x i o n h in
-      did-edit (allocates (fileOf (x .current)) o n (current-ok (c .file)) (c .some-byte) (c .fits)) no-bytes
-  op-did (DEALLOCATE i o n) h =
-      let c = deallocate-clear g x i o n h in
-      did-edit (deallocates (fileOf (x .current)) o (min (o + n) (sizeOf (x .store) (fileOf (x .current)))) (current-ok (c .file)) (omega arith)) no-bytes
-  op-did (COPY i j s o n ca sy) h =
-      let c = copy-clear g x i j s o n ca sy h in
-      did-edit (copies (fileOf (x .current)) o (meant x s n) (fileOf (x .saved)) s (current-ok (c .file)) (saved-ok (c .source)) (c .inside) (c .fits)) (copy-most (meant x s n))
-  op-did (CLONE i j s o n) h =
-      let c = clone-clear g x i j s o n h in
-      did-edit (clones (fileOf (x .current)) o (meant x s n) (fileOf (x .saved)) s (record {
-        target-file = current-ok (c .file);
-        source-file = saved-ok (c .source);
-        inside = c .inside;
-        fits = c .fits;
-        source-even = c .source-even;
-        target-even = c .target-even;
-        even = c .even;
-        clear = c .apart;
-      })) no-bytes
+  -- every operation: its number, its errors' statuses, and what it does without error
+  pub record OpFacts (o : Op) : Type 0 where
+    pub number : opNumber o ≤ 71
+    pub statuses : known (errors g x o) ≡ true
+    pub did : first (errors g x o) ≡ 0 → Did g x (opNumber o) (does g x o)
+
+  pub op-facts : (o : Op) → OpFacts o
+  unfolding errors does
+  op-facts GETFH = record {
+    number = omega arith;
+    statuses = refl;
+    did = λ h. did-show {b = opaque (u32 (fileOf (x .current)))} (omega (arith, length-opaque (u32 (fileOf (x .current))), length-u32 (fileOf (x .current))));
+  }
+  op-facts RESTOREFH = record { number = omega arith; statuses = refl; did = λ h. did-set (r .saved) (r .saved) (λ e. absurd (true≢false e)) }
+  op-facts SAVEFH = record { number = omega arith; statuses = refl; did = λ h. did-set (r .current) (r .current) (λ e. refl) }
+  op-facts (PUTFH d) = record {
+    number = omega arith;
+    statuses = refl;
+    did = λ h. did-set (λ e q. rw (some-inj (value d) e q) at (put-clear g x d h .file)) (r .saved) (λ e. absurd (true≢false e));
+  }
+  op-facts (READ i o n) = record { number = omega arith; statuses = refl; did = λ h. did-show (read-most g pos (x .store) (fileOf (x .current)) o n) }
+  op-facts (READ-PLUS i o n) = record {
+    number = omega arith;
+    statuses = refl;
+    did = λ h. did-show (read-plus-most g pos (x .store) (fileOf (x .current)) wide (any-file g (x .store) (r .sound) (fileOf (x .current))) o n);
+  }
+  op-facts (SEEK i o n) = record { number = omega arith; statuses = refl; did = λ h. did-show (seek-most g (x .store) (fileOf (x .current)) o n) }
+  op-facts (WRITE i o s d) = record {
+    number = omega arith;
+    statuses = refl;
+    did = λ h.
+        let c = write-clear g x i o s d h in
+        did-edit (writes (fileOf (x .current)) o (length d) _ (current-ok (c .file)) (c .fits)) (write-most (length d));
+  }
+  op-facts (ALLOCATE i o n) = record {
+    number = omega arith;
+    statuses = refl;
+    did = λ h.
+        let c = allocate-clear g x i o n h in
+        did-edit (allocates (fileOf (x .current)) o n (current-ok (c .file)) (c .some-byte) (c .fits)) no-bytes;
+  }
+  op-facts (DEALLOCATE i o n) = record {
+    number = omega arith;
+    statuses = refl;
+    did = λ h.
+        let c = deallocate-clear g x i o n h in
+        did-edit (deallocates (fileOf (x .current)) o (min (o + n) (sizeOf (x .store) (fileOf (x .current)))) (current-ok (c .file)) (omega arith)) no-bytes;
+  }
+  op-facts (COPY i j s o n ca sy) = record {
+    number = omega arith;
+    statuses = refl;
+    did = λ h.
+        let c = copy-clear g x i j s o n ca sy h in
+        did-edit (copies (fileOf (x .current)) o (meant x s n) (fileOf (x .saved)) s (current-ok (c .file)) (saved-ok (c .source)) (c .inside) (c .fits)) (copy-most (meant x s n));
+  }
+  op-facts (CLONE i j s o n) = record {
+    number = omega arith;
+    statuses = refl;
+    did = λ h.
+        let c = clone-clear g x i j s o n h in
+        did-edit (clones (fileOf (x .current)) o (meant x s n) (fileOf (x .saved)) s (record {
+          target-file = current-ok (c .file);
+          source-file = saved-ok (c .source);
+          inside = c .inside;
+          fits = c .fits;
+          source-even = c .source-even;
+          target-even = c .target-even;
+          even = c .even;
+          clear = c .apart;
+        })) no-bytes;
+  }
+
+  pub errors-most : (o : Op) → first (errors g x o) ≤ 10090
+  errors-most o = first-known (errors g x o) (op-facts o .statuses) .0
+
+  -- no earlier error is NOSPC
+  pub not-nospc : (o : Op) → first (errors g x o) ≢ NOSPC
+  not-nospc o = first-known (errors g x o) (op-facts o .statuses) .1
 
   -- what follows for any operation without error that has room
   abbrev after : Does → State
@@ -124,7 +169,7 @@ module _ (g : Geometry) (wide : 512 ≤ g .B) (x : State) (r : Ready g x) where
   -- the store stays sound, and handles keep naming files
   pub effect-ready : (o : Op) → first (errors g x o) ≡ 0 → need (countedAfter g x o) ≤ g .N → Ready g (effect g x o)
   unfolding effect
-  effect-ready o h room = go (op-did o h) room
+  effect-ready o h room = go (op-facts o .did h) room
     where
       go : {d : Does} → Did g x (opNumber o) d → need (after d .store .words) ≤ g .N → Ready g (after d)
       go (did-set a b k) room = record { sound = r .sound; current = a; saved = b }
@@ -139,7 +184,7 @@ module _ (g : Geometry) (wide : 512 ≤ g .B) (x : State) (r : Ready g x) where
   pub effect-same : (o : Op) → first (errors g x o) ≡ 0 → need (countedAfter g x o) ≤ g .N → (f : ℕ) → f < g .F → ((e : Edit) → editOf g x o ≡ some e → f ≢ e .file)
       → Same f (effect g x o .store)
   unfolding effect editOf
-  effect-same o h room f hf other = go (op-did o h) room other
+  effect-same o h room f hf other = go (op-facts o .did h) room other
     where
       go : {d : Does} → Did g x (opNumber o) d → need (after d .store .words) ≤ g .N → ((e : Edit) → editIn d ≡ some e → f ≢ e .file) → Same f (after d .store)
       go (did-set a b k) room other = record { byte = λ i h. refl; size = refl }
@@ -152,7 +197,7 @@ module _ (g : Geometry) (wide : 512 ≤ g .B) (x : State) (r : Ready g x) where
   pub effect-r : (o : Op) → first (errors g x o) ≡ 0 → (f k : ℕ) → k < g .S → wordOf g (x .store .words) f k % 2 ≡ 1
       → ((e : Edit) → editOf g x o ≡ some e → Back g (x .store) e f k → ⊥) → wordOf g (effect g x o .store .words) f k % 2 ≡ 1
   unfolding effect editOf
-  effect-r o h f k hk q d = go (op-did o h) d
+  effect-r o h f k hk q d = go (op-facts o .did h) d
     where
       go : {w : Does} → Did g x (opNumber o) w → ((e : Edit) → editIn w ≡ some e → Back g (x .store) e f k → ⊥) → wordOf g (after w .store .words) f k % 2 ≡ 1
       go (did-set a b k) d = q
@@ -166,7 +211,7 @@ module _ (g : Geometry) (wide : 512 ≤ g .B) (x : State) (r : Ready g x) where
   pub effect-content : (o : Op) → first (errors g x o) ≡ 0 → need (countedAfter g x o) ≤ g .N → (f : ℕ) → f < g .F
       → content g (effect g x o .store) f ≡ arrayIn (editOf g x o) f
   unfolding effect editOf
-  effect-content o h room f hf = go (op-did o h) room
+  effect-content o h room f hf = go (op-facts o .did h) room
     where
       go : {d : Does} → Did g x (opNumber o) d → need (after d .store .words) ≤ g .N → content g (after d .store) f ≡ arrayIn (editIn d) f
       go (did-set a b k) room = refl
@@ -175,7 +220,7 @@ module _ (g : Geometry) (wide : 512 ≤ g .B) (x : State) (r : Ready g x) where
 
   pub effect-current : (o : Op) → first (errors g x o) ≡ 0 → setsFile (opNumber o) ≡ false → effect g x o .current ≡ x .current
   unfolding effect
-  effect-current o h n = go (op-did o h)
+  effect-current o h n = go (op-facts o .did h)
     where
       go : {d : Does} → Did g x (opNumber o) d → after d .current ≡ x .current
       go (did-set a b k) = k n
@@ -184,7 +229,7 @@ module _ (g : Geometry) (wide : 512 ≤ g .B) (x : State) (r : Ready g x) where
 
   pub body-most : (v : List ℕ) → length v ≡ 8 → (o : Op) → first (errors g x o) ≡ 0 → length (body g v x o) ≤ 2171
   unfolding body
-  body-most v hv o h = go (op-did o h)
+  body-most v hv o h = go (op-facts o .did h)
     where
       go : {d : Does} → Did g x (opNumber o) d → length {A = ℕ} (elim d [ sets a b ↦ [] | shows b ↦ b | edits e b ↦ b v ]) ≤ 2171
       go (did-set a b k) = omega arith

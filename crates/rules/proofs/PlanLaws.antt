@@ -1,5 +1,5 @@
 -- What the plans do to the slot words: which words change, that r stays, what the need becomes, and that an owned block has one holder.
-use Prim.Native.Nat.{ℕ, zero, suc, pred, _+_, _-_, _/_, _%_, _≤_, _<_, max}
+use Prim.Native.Nat.{ℕ, zero, suc, pred, _+_, _/_, _%_, _≤_, _<_, max}
 use mathlib.Core.Path.{_≡_, refl, sym, ap, _∙_}
 use mathlib.Core.Bool.{Bool, true, false, cond, _||_}
 use mathlib.Core.List.{List, [], _∷_}
@@ -14,7 +14,7 @@ use lib.Dec.{ltb}
 use Rattle.rules.specs.Lists.{bit, countTo, each}
 use Rattle.rules.specs.Store.{word, isHole, isShared, holders, blockBound, used, owed, lowestFree}
 use Rattle.rules.specs.Edit.{owned}
-use Rattle.rules.proofs.Steps.{own, ownUnless, share}
+use Rattle.rules.proofs.EditSteps.{own, ownUnless, share}
 use Rattle.rules.proofs.CountLaws.{sumTo-point}
 use Rattle.rules.proofs.NeedLaws.{holders-other, holders-gained, holders-lost, need-hole, need-shared, lowestFree-free, lowestFree≤used, used-to, top-set}
 

@@ -1,12 +1,10 @@
 -- P1 to P10 (document 01, "Both sides of the line"): lists of calls, as request bytes through the machine, under one claim.
-use Prim.Native.Nat.{_+_}
 use mathlib.Core.Path.{_≡_, refl}
 use mathlib.Core.List.{List, [], _∷_, _++_, map}
 use lib.ListN.{replicate}
 use Rattle.xdr.specs.Encode.{u32, u64}
 use Rattle.rules.specs.Operation.{READ, SEEK}
 use Rattle.rules.specs.Run.{zeroId}
-use Rattle.rules.specs.Claim.{machine}
 use Rattle.rules.proofs.Script.{Run, machineTold, on, allocate, write, clone, replied, result, put, wrote, cloned, rules}
 
 abbrev runs : List Run

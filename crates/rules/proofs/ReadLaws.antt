@@ -3,7 +3,7 @@ use Prim.Native.Nat.{ℕ, zero, suc, _+_, _-_, _*_, _/_, _≤_, _<_, min}
 use mathlib.Core.Path.{_≡_, refl, sym, ap, ap₂, _∙_}
 use mathlib.Core.Bool.{Bool, true, false, cond, not, Bool·beq, true≢false}
 use mathlib.Core.List.{List, [], _∷_, _++_, append-assoc}
-use mathlib.Core.Logic.{_≢_, _⊎_, inl, inr}
+use mathlib.Core.Logic.{_⊎_, inl, inr}
 use native.Mathlib.Nat.{le-refl, le-trans, add-zero, zero-add, add-suc, suc-add, mul-le-mul-right, div-add-mod', le-div-iff-mul-le}
 use native.Mathlib.Decide.{decLe, decLt}
 use native.Mathlib.Omega.{arith}
@@ -15,7 +15,7 @@ use Rattle.rules.specs.Lists.{tabulate}
 use Rattle.rules.specs.Store.{Geometry, Store, isHole, sizeOf, wordOf, byteAt, bytesFrom}
 use Rattle.rules.specs.Read.{Piece, holeAt, join, pieces, seekFrom}
 use Rattle.rules.specs.Claim.{laid}
-use Rattle.rules.proofs.FileLaws.{div-le, div-ge}
+use Rattle.rules.proofs.SoundStore.{div-le, div-ge}
 
 pub tab-append : (f : ℕ → ℕ) (a b i : ℕ) → tabulate f i (a + b) ≡ tabulate f i a ++ tabulate f (i + a) b
 tab-append f zero b i = rw (zero-add b, add-zero i)

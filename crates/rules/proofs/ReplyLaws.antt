@@ -1,15 +1,13 @@
 -- The reply of a call: at most 27,184 bytes, 1,036 for status, tag and count and 2,179 for each of at most 12 results; and the layouts' readers
 -- read back its status, its tag and each result.
 use Prim.Native.Nat.{ℕ, zero, suc, _+_, _*_, _^_, _≤_, _<_}
-use mathlib.Core.Path.{_≡_, refl, sym, ap, _∙_}
-use mathlib.Core.Bool.{Bool, true, false, cond, not}
+use mathlib.Core.Path.{_≡_, refl, ap}
+use mathlib.Core.Bool.{not}
 use mathlib.Core.Option.{Option, none, some}
 use mathlib.Core.List.{List, [], _∷_, _++_}
-use native.Mathlib.Nat.{zero-add}
 use native.Mathlib.Omega.{arith}
 use borrow.Author.Tests.{ltb-false}
-use lib.ListN.{length, drop, length-append}
-use lib.Seq.{drop-append-seam}
+use lib.ListN.{length, length-append}
 use lib.Dec.{ltb, eqb}
 use Rattle.xdr.specs.Encode.{concatMap}
 use Rattle.xdr.specs.Decode.{got}
@@ -26,9 +24,9 @@ use Rattle.rules.proofs.GeometryLaws.{Good}
 use Rattle.rules.proofs.FirstLaws.{all-clear}
 use Rattle.rules.proofs.BodyLaws.{pad-most}
 use Rattle.rules.proofs.ItemLaws.{Known, item-known, all-known}
-use Rattle.rules.proofs.FileLaws.{Sound}
+use Rattle.rules.proofs.SoundStore.{Sound}
 use Rattle.rules.proofs.OperationLaws.{Ready}
-use Rattle.rules.proofs.ChainLaws.{Step, Chain, nil, cons, reached-chain, step-known}
+use Rattle.rules.proofs.ChainLaws.{Chain, nil, cons, reached-chain, step-known}
 
 -- at the start of a compound no handle is set
 none≢some : (f : ℕ) → _≡_ {A = Option ℕ} none (some f) → ⊥

@@ -9,7 +9,7 @@ use Rattle.rules.specs.Store.{Geometry, goodBlockSize, goodGeometry, Sto
 use Rattle.rules.specs.Edit.{givesBack, kindOf, owned, become, pass, plan, storeSlot, editBytes, edited}
 use Rattle.rules.specs.Read.{join, pieces, seekFrom}
 use Rattle.rules.specs.Operation.{Op, PUTFH, SAVEFH, WRITE, ALLOCATE, CLONE, itemAt, items, header, requestBytes, readReply, readPlusReply, seekReply}
-use Rattle.rules.specs.Run.{zeroId, errors, does, editOf, effect, body, Event, perform, reached}
+use Rattle.rules.specs.Run.{zeroId, errors, does, editOf, effect, body, perform, reached}
 use Rattle.rules.specs.Calls.{compound, replyBytes, Call, Outcome, served, refusal, answer, makeRefusal, madeStore, storeRefusal, usedCount, owedCount, slotRefusal, slotView, slotIsHole}
 use Rattle.rules.specs.Claim.{ranCall, serving, machine, events, history, editDone, extend, arrayWrite, arrayZero, arrayAct, arrayEdit, arrayAfter}
 

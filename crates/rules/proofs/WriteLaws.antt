@@ -7,15 +7,15 @@ use native.Mathlib.Nat.{le-refl, le-trans, mul-le-mul-right, div-add-mod', mod-l
 use native.Mathlib.Decide.{decLe, decLt}
 use native.Mathlib.Omega.{arith}
 use borrow.Author.Tests.{lt-ltb, le-ltb, le-leb, lt-leb}
-use lib.ListN.{length, set, length-set}
+use lib.ListN.{length, length-set}
 use lib.Seq.{getD-set-same, getD-set-other}
 use Rattle.rules.specs.Store.{Geometry, Store, sizeOf, wordOf, used, owed, byteAt}
 use Rattle.rules.specs.Edit.{within, firstSlot, slotCount, edited, writing}
-use Rattle.rules.proofs.Steps.{own, planWrite, writeBytes}
+use Rattle.rules.proofs.EditSteps.{own, planWrite, writeBytes}
 use Rattle.rules.proofs.EditForms.{write-is}
 use Rattle.rules.proofs.PlanLaws.{InPool, SameR, each-sameR, own-sameR, plan-pool, own-reserved}
-use Rattle.rules.proofs.ViewLaws.{view, own-local, Wrote, wrote}
-use Rattle.rules.proofs.FileLaws.{div-le, div-ge, div-lt, Sound, Edited, apart, in-file, other-words, slots-fit, plan-past, slot-in}
+use Rattle.rules.proofs.SlotByteLaws.{view, own-local, Wrote, wrote}
+use Rattle.rules.proofs.SoundStore.{div-le, div-ge, div-lt, Sound, Edited, apart, in-file, other-words, slots-fit, plan-past, slot-in}
 use Rattle.rules.proofs.BoolLaws.{and-false}
 
 pub outside : (off end i : ℕ) → (i < off) ⊎ (end ≤ i) → within off end i ≡ false

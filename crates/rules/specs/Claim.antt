@@ -137,9 +137,13 @@ abbrev pub lastSet : Option ℕ → List Event → Option ℕ
 lastSet a [] = a
 lastSet a (z ∷ zs) = lastSet (cond (setsCurrent z) (z .after .current) a) zs
 
+-- *Well-formed* (document 01's term): number and arguments of z decode without BADXDR, as operation o.
+abbrev pub WellFormed : Event → Op → Type 0
+WellFormed z o = (next : ℕ) × (z .item ≡ op o next)
+
 -- z is the well-formed operation o, with file f current
 abbrev pub Is : Event → Op → ℕ → Type 0
-Is z o f = ((next : ℕ) × (z .item ≡ op o next)) × Current z f
+Is z o f = WellFormed z o × Current z f
 
 -- the edit of an event, where it is an edit answered OK
 unfoldable pub editDone : Geometry → Event → Option Edit
@@ -176,6 +180,7 @@ arrayAct B files e xs =
 -- the array of file f after an edit, from the arrays before it: any file but the edit's keeps its own
 unfoldable pub arrayEdit : Geometry → Store → Edit → ℕ → List ℕ
 arrayEdit g st e f = cond (eqb f (e .file)) (arrayAct (g .B) (content g st) e (content g st f)) (content g st f)
+
 -- the array of file f after an event
 unfoldable pub arrayAfter : Geometry → Event → ℕ → List ℕ
 arrayAfter g z f = elim (editDone g z) [ none ↦ content g (z .before .store) f | some e ↦ arrayEdit g (z .before .store) e f ]

@@ -45,8 +45,7 @@ deallocating f off end = record { file = f; off = off; end = end; act = dealloca
 abbrev pub within : ℕ → ℕ → ℕ → Bool
 within off end i = leb off i && ltb i end
 
--- *Slot of the region* (document 01's term): one with at least one byte in it. The first of them, and how many they are;
--- the difference is none where the region is empty.
+-- its slots, those with at least one byte in it: the first, and how many they are
 abbrev pub firstSlot : Geometry → ℕ → ℕ
 firstSlot g off = off / g .B
 
@@ -69,7 +68,7 @@ pub data Kind : Type 0 where
   reserved : Kind
   stays : Kind
 
--- A DEALLOCATE *gives back* (document 01's term) slot k: all of the slot's bytes below the size, at least one, lie in the region.
+-- DEALLOCATE gives back slot k: all of the slot's bytes below the size, at least one, lie in the region
 unfoldable pub givesBack : Geometry → ℕ → ℕ → ℕ → ℕ → Bool
 givesBack g size off end k = leb off (k * g .B) && ltb (k * g .B) size && leb (min (k * g .B + g .B) size) end
 
@@ -126,7 +125,7 @@ overlay region new p (x ∷ xs) = cond (region p) (new p) x ∷ overlay region n
 unfoldable pub storeSlot : Geometry → (ℕ → Bool) → (ℕ → ℕ) → ℕ → ℕ → List ℕ → ℕ → List ℕ
 storeSlot g region new w w′ m k = splice m (pred (w′ / 2) * g .B) (overlay region new (k * g .B) (slotBytes g m w))
 
--- the byte that the edit puts at place p of its region, in a slot that gets a block of its own
+-- the byte that goes to place p of the region, in a slot that gets a block of its own; CLONE and ALLOCATE have none
 abbrev pub newByte : Geometry → Store → Edit → ℕ → ℕ
 newByte g st e p = elim (e .act) [
   | write new ↦ new p

@@ -1,6 +1,6 @@
 -- The operations of a COMPOUND as bytes, and the bodies of their results (document 01, "The compound"; RFC 5661 section 18, RFC 7862 section 15).
 use Prim.Native.Nat.{ℕ, zero, suc}
-use mathlib.Core.Bool.{Bool, true, cond, _&&_, not}
+use mathlib.Core.Bool.{Bool, true, cond, _&&_}
 use mathlib.Core.Option.{Option, none, some}
 use mathlib.Core.List.{List, [], _∷_, _++_}
 use lib.ListN.{length}
@@ -129,40 +129,41 @@ opBytes o = u32 (opNumber o) ++ wire o .1
 
 -- ---- reading an operation
 
--- three and five arguments, in order
+-- arguments in the order of their layouts
 abbrev pub three : (List ℕ → ℕ → ℕ → Op) → List ℕ × (ℕ × ℕ) → Op
 three f (i, (o, n)) = f i o n
 
-abbrev pub five : (List ℕ → List ℕ → ℕ → ℕ → ℕ → Op) → List ℕ × (List ℕ × (ℕ × (ℕ × ℕ))) → Op
-five f (i, (j, (s, (o, n)))) = f i j s o n
+abbrev pub writeOf : List ℕ × (ℕ × (ℕ × List ℕ)) → Op
+writeOf (i, (o, (s, d))) = WRITE i o s d
 
--- an operation whose arguments have layout l
-abbrev pub reading : {A : Type 0} → Layout A → (A → Op) → Reader (Option Op)
-reading l f = do
-  a ← l .read
-  ret (some (f a))
+abbrev pub cloneOf : List ℕ × (List ℕ × (ℕ × (ℕ × ℕ))) → Op
+cloneOf (i, (j, (s, (o, n)))) = CLONE i j s o n
 
 -- COPY with a source server is not supported: the list of servers is then not read
-abbrev pub readingCopy : Reader (Option Op)
-readingCopy = do
-  a ← copyArgs .read
-  ret (cond (eqb (a .1 .1 .1) 0) (some (five (λ i j s o n. COPY i j s o n (a .1 .0) (a .1 .1 .0)) (a .0))) none)
+abbrev pub copyOf : (List ℕ × (List ℕ × (ℕ × (ℕ × ℕ)))) × (Bool × (Bool × ℕ)) → Option Op
+copyOf ((i, (j, (s, (o, n)))), (c, (y, servers))) = cond (eqb servers 0) (some (COPY i j s o n c y)) none
+
+-- how arguments of layout l are read
+abbrev pub reading : {A : Type 0} → Layout A → (A → Option Op) → Reader (Option Op)
+reading l f = do
+  a ← l .read
+  ret (f a)
 
 -- the operations that we serve: number, and how the arguments are read
 abbrev pub readers : List (ℕ × Reader (Option Op))
 readers =
     (10, ret (some GETFH))
-    ∷ (22, reading handleArgs PUTFH)
-    ∷ (25, reading readArgs (three READ))
+    ∷ (22, reading handleArgs (λ h. some (PUTFH h)))
+    ∷ (25, reading readArgs (λ a. some (three READ a)))
     ∷ (31, ret (some RESTOREFH))
     ∷ (32, ret (some SAVEFH))
-    ∷ (38, reading writeArgs (λ a. WRITE (a .0) (a .1 .0) (a .1 .1 .0) (a .1 .1 .1)))
-    ∷ (59, reading regionArgs (three ALLOCATE))
-    ∷ (60, readingCopy)
-    ∷ (62, reading regionArgs (three DEALLOCATE))
-    ∷ (68, reading readArgs (three READ-PLUS))
-    ∷ (69, reading readArgs (three SEEK))
-    ∷ (71, reading cloneArgs (five CLONE)) ∷ []
+    ∷ (38, reading writeArgs (λ a. some (writeOf a)))
+    ∷ (59, reading regionArgs (λ a. some (three ALLOCATE a)))
+    ∷ (60, reading copyArgs copyOf)
+    ∷ (62, reading regionArgs (λ a. some (three DEALLOCATE a)))
+    ∷ (68, reading readArgs (λ a. some (three READ-PLUS a)))
+    ∷ (69, reading readArgs (λ a. some (three SEEK a)))
+    ∷ (71, reading cloneArgs (λ a. some (cloneOf a))) ∷ []
 
 -- how the arguments of operation n are read, if it is one of them
 abbrev pub find : ℕ → List (ℕ × Reader (Option Op)) → Option (Reader (Option Op))
@@ -174,11 +175,6 @@ find n (r ∷ rs) = cond (eqb n (r .0)) (some (r .1)) (find n rs)
 pub data Item : Type 0 where
   op : Op → ℕ → Item
   bad : ℕ → ℕ → Item
-
--- *Well-formed* (document 01's term): number and arguments decode without BADXDR.
-abbrev pub wellFormed : Item → Bool
-wellFormed (op o next) = true
-wellFormed (bad k e) = not (eqb e BADXDR)
 
 abbrev pub argsItem : ℕ → Parsed (Option Op) → Item
 argsItem n (fault p) = bad n BADXDR

@@ -22,6 +22,7 @@ abbrev pub noFile : Option ℕ → Bool
 noFile none = true
 noFile (some f) = false
 
+-- asked only where there is one: NOFILEHANDLE comes before
 abbrev pub fileOf : Option ℕ → ℕ
 fileOf none = 0
 fileOf (some f) = f

@@ -1,6 +1,6 @@
 -- The store (document 01, "The store"): geometry, tables, blocks, a file's bytes, and when a store is sound.
 use Prim.Native.Nat.{ℕ, zero, suc, pred, _+_, _-_, _*_, _/_, _%_, max}
-use mathlib.Core.Bool.{Bool, cond, _&&_, _||_}
+use mathlib.Core.Bool.{Bool, true, false, cond, _&&_, _||_}
 use mathlib.Core.List.{List, [], _∷_}
 use lib.ListN.{length, getD, replicate}
 use lib.Dec.{leb, ltb, eqb}
@@ -104,7 +104,7 @@ isFree ws b = eqb (holders b ws) 0
 -- the first free block from b on, if it is among the next k; else b + k
 abbrev pub freeFrom : List ℕ → ℕ → ℕ → ℕ
 freeFrom ws zero b = b
-freeFrom ws (suc k) b = elim (holders b ws) [ zero ↦ b | suc n ↦ freeFrom ws k (suc b) ]
+freeFrom ws (suc k) b = elim (isFree ws b) [ true ↦ b | false ↦ freeFrom ws k (suc b) ]
 
 -- The lowest-numbered free block. The pool is not looked at: where it has no free block, they are numbered on from N.
 unfoldable pub lowestFree : List ℕ → ℕ

@@ -13,14 +13,14 @@ use Rattle.xdr.specs.Bytes.{splice}
 use Rattle.rules.specs.Lists.{tabulate, each}
 use Rattle.rules.specs.Store.{Geometry, Store, wordOf, slotByte, byteAt, bytesFrom}
 use Rattle.rules.specs.Edit.{within, firstSlot, slotCount, owned, slotBytes, overlay, storeSlot}
-use Rattle.rules.proofs.Steps.{own, planWrite, writeBytes}
+use Rattle.rules.proofs.EditSteps.{own, planWrite, writeBytes}
 use Rattle.rules.proofs.GeometryLaws.{good}
 use Rattle.rules.proofs.PlanLaws.{each-ext, own-slot, two-holders, own-sameR, each-sameR, InPool}
-use Rattle.rules.proofs.ViewLaws.{Local, length-overlay, slot-long, shows-other, plan-before, own-local}
-use Rattle.rules.proofs.FileLaws.{div-lt, apart, in-file, other-words, slots-fit}
+use Rattle.rules.proofs.SlotByteLaws.{Local, length-overlay, slot-long, shows-other, plan-before, own-local}
+use Rattle.rules.proofs.SoundStore.{div-lt, apart, in-file, other-words, slots-fit}
 use Rattle.rules.proofs.WriteLaws.{outside}
-use Rattle.store.specs.ReadCode.{Readable}
-use Rattle.store.specs.Bytes.{Backed, SlotCopy, AllCopies, storeSlots}
+use Rattle.store.specs.Readable.{Readable}
+use Rattle.store.specs.SlotBytes.{Backed, SlotCopy, AllCopies, storeSlots}
 use Rattle.store.proofs.RangeLaws.{range-outside}
 use Rattle.store.proofs.SettleLaws.{saved-pool}
 use Rattle.store.proofs.EdgeLaws.{plan-held}

@@ -8,13 +8,13 @@ use borrow.Author.Tests.{not-false}
 use lib.ListN.{length, set}
 use Rattle.rules.specs.Store.{Geometry, Store, sizeOf, byteAt}
 use Rattle.rules.specs.Edit.{within, edited, copying}
-use Rattle.rules.proofs.FileLaws.{Sound}
-use Rattle.rules.proofs.Steps.{planWrite, writeBytes}
+use Rattle.rules.proofs.SoundStore.{Sound}
+use Rattle.rules.proofs.EditSteps.{planWrite, writeBytes}
 use Rattle.rules.proofs.EditForms.{copy-is-write}
 use Rattle.store.specs.Own.{WritePlanned}
-use Rattle.store.specs.Bytes.{AllCopies, storeSlots}
-use Rattle.store.specs.ReadCode.{Readable}
-use Rattle.store.specs.Edits.{EditKnown, EditPromise, SlotsKnown, SourceKnown, Finished}
+use Rattle.store.specs.SlotBytes.{AllCopies, storeSlots}
+use Rattle.store.specs.Readable.{Readable}
+use Rattle.store.specs.EditPromises.{EditKnown, EditPromise, SlotsKnown, SourceKnown, Finished}
 use Rattle.store.proofs.CopyBytes.{all-copies, copy-stored}
 use Rattle.store.proofs.WriteEdit.{edit-done, sound-store, write-empty, region-room, slotAt, lent, lent-count, edit-is, write-judged, write-refused, planned-is, after-long, after-pool, old-long}
 

@@ -8,16 +8,15 @@ use native.Mathlib.Omega.{arith}
 use borrow.Author.Tests.{le-leb, not-true, not-false}
 use lib.ListN.{length}
 use lib.Seq.{set-getD}
-use lib.Dec.{leb}
 use Rattle.rules.specs.Lists.{each}
 use Rattle.rules.specs.Store.{Geometry, Store, sizeOf, need, fitsPool}
 use Rattle.rules.specs.Edit.{givesBack, edited, deallocating}
-use Rattle.rules.proofs.Steps.{ownUnless, giveBack, planDeallocate, zeroBytes}
-use Rattle.rules.proofs.FileLaws.{Sound}
+use Rattle.rules.proofs.EditSteps.{ownUnless, giveBack, planDeallocate, zeroBytes}
+use Rattle.rules.proofs.SoundStore.{Sound}
 use Rattle.rules.proofs.EditForms.{deallocate-is}
 use Rattle.store.specs.Own.{skipsBy, DeallocatePlanned}
-use Rattle.store.specs.Bytes.{AllEdges, zeroSlots}
-use Rattle.store.specs.Edits.{EditPromise, SlotsKnown, CutKnown, CutRegion, CutSlots}
+use Rattle.store.specs.SlotBytes.{AllEdges, zeroSlots}
+use Rattle.store.specs.EditPromises.{EditPromise, SlotsKnown, CutKnown, CutRegion, CutSlots}
 use Rattle.store.proofs.SettleLaws.{saved-pool, plan-deallocate-is}
 use Rattle.store.proofs.EdgeLaws.{edges-touched, zero-bytes-is, edge-held}
 use Rattle.store.proofs.WriteEdit.{edit-refused, edit-done, sound-store, slotAt, lent, slots-inside, lent-count, part-long}

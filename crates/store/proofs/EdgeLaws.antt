@@ -11,13 +11,13 @@ use lib.Seq.{getD-set-same}
 use Rattle.rules.specs.Lists.{each}
 use Rattle.rules.specs.Store.{Geometry, goodGeometry, Store, isHole, sizeOf}
 use Rattle.rules.specs.Edit.{within, firstSlot, slotCount, owned, storeSlot, givesBack}
-use Rattle.rules.proofs.Steps.{own, ownUnless, storeAt, storeUnless, giveBack, planGiveBack, skips, planDeallocate, zeroBytes}
+use Rattle.rules.proofs.EditSteps.{own, ownUnless, storeAt, storeUnless, giveBack, planGiveBack, skips, planDeallocate, zeroBytes}
 use Rattle.rules.proofs.GeometryLaws.{good, block-pos}
 use Rattle.rules.proofs.PlanLaws.{each-keeps, own-slot, ownUnless-sameR, InPool}
-use Rattle.rules.proofs.ViewLaws.{plan-before, own-local}
-use Rattle.rules.proofs.FileLaws.{slots-fit}
+use Rattle.rules.proofs.SlotByteLaws.{plan-before, own-local}
+use Rattle.rules.proofs.SoundStore.{slots-fit}
 use Rattle.rules.proofs.DeallocateLaws.{giveBack-local, gave-back}
-use Rattle.store.specs.Bytes.{zeroEdge, Edge, AllEdges, zeroSlots}
+use Rattle.store.specs.SlotBytes.{zeroEdge, Edge, AllEdges, zeroSlots}
 use Rattle.store.proofs.StoreLaws.{slot-touched, each-from, word-cut}
 
 -- ---- the code

@@ -16,7 +16,7 @@ use Rattle.rules.specs.Store.{Geometry, Store, sizeOf, wordOf, slotByte, byteAt
 use Rattle.store.specs.Tables.{FileKnown}
 use Rattle.rules.proofs.GeometryLaws.{Good, good, block-pos, file-most, lengths}
 use Rattle.rules.proofs.BoolLaws.{and-both, and-false, or-inl}
-use Rattle.rules.proofs.FileLaws.{ceil-le, le-ceil}
+use Rattle.rules.proofs.SoundStore.{ceil-le, le-ceil}
 use Rattle.rules.proofs.SoundLaws.{allTo-at, allTo-all}
 
 -- ---- a loop that tests the numbers below n, one a turn: those below i passed

@@ -13,7 +13,7 @@ pub mod ScanLaws
 pub mod EdgeLaws
 pub mod WriteEdit
 pub mod SettleLaws
-pub mod EditLaws
+pub mod SurveyKnown
 pub mod CopyBytes
 pub mod CopyEdit
 pub mod CutEdit

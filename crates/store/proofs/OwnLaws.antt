@@ -13,12 +13,12 @@ use Rattle.xdr.specs.Bytes.{splice}
 use Rattle.rules.specs.Lists.{bit, sumTo, each}
 use Rattle.rules.specs.Store.{Geometry, word, holds, holders, blockBound, used, owed, lowestFree, fitsPool, holeOrShared}
 use Rattle.rules.specs.Edit.{firstSlot, slotCount, owned}
-use Rattle.rules.proofs.Steps.{own, ownUnless, planWrite}
+use Rattle.rules.proofs.EditSteps.{own, ownUnless, planWrite}
 use Rattle.rules.proofs.CountLaws.{sumTo-add, sumTo-point, sumTo-cut, sumTo-ge}
 use Rattle.rules.proofs.NeedLaws.{lowestFree-least}
 use Rattle.rules.proofs.PlanLaws.{each-sameR, ownUnless-sameR, own-slot, plan-used, InPool}
 use Rattle.store.specs.Tally.{takesBy, firstZero}
-use Rattle.store.specs.Plan.{Counted, Stored}
+use Rattle.store.specs.Plan.{TableTrue, Stored}
 use Rattle.store.specs.Own.{NoneFree, SlotOwned, RangeOwned}
 use Rattle.store.proofs.RangeLaws.{each-shift}
 use Rattle.store.proofs.TallyLaws.{takes-same, tallied-free, tallied-full}
@@ -55,7 +55,7 @@ lowestFree≤slots ws =
 -- ---- one slot
 
 module _ {skip : Bool} {ws cs : List ℕ} {i : ℕ} {after cs′ : List ℕ} where
-  slot-done : after ≡ cond skip ws (set ws i (owned ws (getD ws i 0))) → Counted after cs′ → SlotOwned skip ws cs i true after cs′
+  slot-done : after ≡ cond skip ws (set ws i (owned ws (getD ws i 0))) → TableTrue after cs′ → SlotOwned skip ws cs i true after cs′
   slot-done e k = record { words-are = e; counted = k; counts-same = λ d. absurd (true≢false d); stopped = λ d. absurd (true≢false d) }
 
   -- one that is not skipped
@@ -63,10 +63,10 @@ module _ {skip : Bool} {ws cs : List ℕ} {i : ℕ} {after cs′ : List ℕ} whe
   slot-asked e s = rw e s
 
 -- a skipped slot is left
-pub slot-left : {skip : Bool} {ws cs : List ℕ} {i : ℕ} → skip ≡ true → Counted ws cs → SlotOwned skip ws cs i true ws cs
+pub slot-left : {skip : Bool} {ws cs : List ℕ} {i : ℕ} → skip ≡ true → TableTrue ws cs → SlotOwned skip ws cs i true ws cs
 slot-left e = slot-done (rw e)
 
-module _ (ws cs : List ℕ) (known : Counted ws cs) where
+module _ (ws cs : List ℕ) (known : TableTrue ws cs) where
   -- a free block of the table is low enough for a word
   pub free-low : firstZero cs < length cs → firstZero cs ≤ 65536
   free-low h = omega (arith, tallied-free ws cs (known .table) (known .pool) h, lowestFree≤slots ws, known .few)
@@ -111,7 +111,7 @@ pub record Owning (skip : ℕ → Bool) (ws₀ cs₀ : List ℕ) (at first n : �
   pub within : j ≤ n
   pub slots : length ws ≡ length ws₀
   pub blocks : length cs ≡ length cs₀
-  pub counted : Counted ws cs
+  pub counted : TableTrue ws cs
   pub done : ws ≡ each (ownUnless skip at) ws₀ first j
 
 module _ {skip : ℕ → Bool} {ws₀ cs₀ ws cs : List ℕ} {at first n j : ℕ} (o : Owning skip ws₀ cs₀ at first n ws cs j) where

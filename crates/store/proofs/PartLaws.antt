@@ -13,7 +13,7 @@ use Rattle.xdr.specs.Bytes.{splice}
 use Rattle.xdr.proofs.BytesLaws.{length-splice, splice-in, splice-below, splice-above}
 use Rattle.rules.specs.Lists.{tabulate}
 use Rattle.rules.specs.Edit.{within, overlay}
-use Rattle.rules.proofs.ViewLaws.{length-overlay, getD-overlay, length-tab, getD-tab}
+use Rattle.rules.proofs.SlotByteLaws.{length-overlay, getD-overlay, length-tab, getD-tab}
 use Rattle.rules.proofs.WriteLaws.{outside, inside}
 
 -- a test that says the same at each place of the list

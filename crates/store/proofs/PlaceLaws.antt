@@ -16,10 +16,10 @@ use Rattle.xdr.proofs.BytesLaws.{put-splice}
 use Rattle.rules.specs.Lists.{tabulate}
 use Rattle.rules.specs.Store.{Geometry, Store, wordOf, byteAt, bytesFrom}
 use Rattle.rules.specs.Read.{holeAt}
-use Rattle.store.specs.ReadCode.{Placed, Readable, InSlot}
+use Rattle.store.specs.Readable.{Placed, Readable, InSlot}
 use Rattle.rules.proofs.GeometryLaws.{Good, good, slots-all, block-pos}
-use Rattle.rules.proofs.FileLaws.{div-lt, in-file}
-use Rattle.rules.proofs.ViewLaws.{length-tab, getD-tab, in-memory}
+use Rattle.rules.proofs.SoundStore.{div-lt, in-file}
+use Rattle.rules.proofs.SlotByteLaws.{length-tab, getD-tab, in-memory}
 use Rattle.rules.proofs.ReadLaws.{tab-append, same-slot, laid-slot}
 
 -- ---- a place's word

@@ -5,16 +5,16 @@ use mathlib.Core.Bool.{Bool, true, false, not}
 use mathlib.Core.List.{List}
 use native.Mathlib.Nat.{mul-le-mul-right, div-add-mod'}
 use native.Mathlib.Omega.{arith}
-use borrow.Author.Tests.{le-leb, lt-leb}
+use borrow.Author.Tests.{le-leb}
 use lib.ListN.{length, set}
 use Rattle.rules.specs.Lists.{ceilDiv, each}
 use Rattle.rules.specs.Store.{Geometry, Store, sizeOf}
 use Rattle.rules.specs.Edit.{firstSlot, slotCount, edited, allocating, cloning}
-use Rattle.rules.proofs.Steps.{reserve, share}
+use Rattle.rules.proofs.EditSteps.{reserve, share}
 use Rattle.rules.proofs.GeometryLaws.{block-pos, file-most}
-use Rattle.rules.proofs.FileLaws.{ceil-behind}
+use Rattle.rules.proofs.SoundStore.{ceil-behind}
 use Rattle.store.specs.Plan.{Planned}
-use Rattle.store.specs.Edits.{EditPromise, RegionKnown, SlotsKnown, CloneKnown}
+use Rattle.store.specs.EditPromises.{EditPromise, RegionKnown, SlotsKnown, CloneKnown}
 use Rattle.rules.proofs.EditForms.{allocate-is, clone-is}
 use Rattle.store.proofs.RangeLaws.{plan-allocate-is, plan-clone-is}
 use Rattle.store.proofs.WriteEdit.{good-geometry, sound-store, edit-none, plan-refused, plan-done, slotAt, slots-inside, file-inside}

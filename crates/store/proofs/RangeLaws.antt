@@ -13,10 +13,10 @@ use lib.Dec.{leb}
 use Rattle.rules.specs.Lists.{ceilDiv, each}
 use Rattle.rules.specs.Store.{Geometry, goodGeometry}
 use Rattle.rules.specs.Edit.{firstSlot, slotCount, givesBack}
-use Rattle.rules.proofs.Steps.{reserve, planAllocate, share, planClone, giveBack, planGiveBack}
+use Rattle.rules.proofs.EditSteps.{reserve, planAllocate, share, planClone, giveBack, planGiveBack}
 use Rattle.rules.proofs.GeometryLaws.{good, file-most}
-use Rattle.rules.proofs.ViewLaws.{Local, plan-before, plan-after}
-use Rattle.store.specs.Plan.{Counted, Stored}
+use Rattle.rules.proofs.SlotByteLaws.{Local, plan-before, plan-after}
+use Rattle.store.specs.Plan.{TableTrue, Stored}
 use Rattle.store.specs.Ranges.{RangeDone}
 
 -- ---- one slot
@@ -42,11 +42,11 @@ pub record Ranging (step : List ℕ → ℕ → List ℕ) (planned : List ℕ) (
   pub within : k ≤ last
   pub slots : length ws ≡ length ws₀
   pub blocks : length cs ≡ length cs₀
-  pub counted : Counted ws cs
+  pub counted : TableTrue ws cs
   pub left : each step ws k (last - k) ≡ planned
 
 module _ (step : List ℕ → ℕ → List ℕ) where
-  pub range-start : (ws cs : List ℕ) (first n last : ℕ) → last ≡ first + n → Counted ws cs
+  pub range-start : (ws cs : List ℕ) (first n last : ℕ) → last ≡ first + n → TableTrue ws cs
       → Ranging step (each step ws first n) last ws cs ws cs first
   range-start ws cs first n last e h =
       let d : last - first ≡ n = omega arith in

@@ -16,8 +16,8 @@ use Rattle.xdr.proofs.EncodeLaws.{length-u32, length-u64, length-opaque}
 use Rattle.rules.specs.Store.{Geometry, Store, sizeOf, bytesFrom}
 use Rattle.rules.specs.Read.{Piece, holeAt, join, pieces, seekFrom, seekPlace}
 use Rattle.rules.specs.Operation.{holePiece, dataPiece, pieceBytes}
-use Rattle.store.specs.ReadCode.{Placed, Readable, holeIn, PieceEnds, pieceAt, piecesTo, PiecesPut, pieceSize, piecesSize}
-use Rattle.rules.proofs.ViewLaws.{length-tab}
+use Rattle.store.specs.Readable.{Placed, Readable, holeIn, PieceEnds, pieceAt, piecesTo, PiecesPut, pieceSize, piecesSize}
+use Rattle.rules.proofs.SlotByteLaws.{length-tab}
 use Rattle.rules.proofs.ReadLaws.{pieces-none, slot-end, same-kind, Reaches, reached, reaches-slot, reaches-next, reaches-all, First, seek-first}
 use Rattle.rules.specs.Claim.{Unlike}
 use Rattle.store.proofs.PlaceLaws.{placed-pos, readable-pos}

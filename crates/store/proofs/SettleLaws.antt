@@ -13,10 +13,10 @@ use Rattle.xdr.proofs.BytesLaws.{length-splice, splice-in, splice-below, splice
 use Rattle.rules.specs.Lists.{each}
 use Rattle.rules.specs.Store.{Geometry, isHole, wordOf, fitsPool}
 use Rattle.rules.specs.Edit.{firstSlot, slotCount, givesBack}
-use Rattle.rules.proofs.Steps.{own, ownUnless, giveBack, skips, planGiveBack, planDeallocate}
+use Rattle.rules.proofs.EditSteps.{own, ownUnless, giveBack, skips, planGiveBack, planDeallocate}
 use Rattle.rules.proofs.PlanLaws.{each-ext, InPool}
-use Rattle.rules.proofs.ViewLaws.{Local, own-local}
-use Rattle.store.specs.Plan.{Counted, Planned}
+use Rattle.rules.proofs.SlotByteLaws.{Local, own-local}
+use Rattle.store.specs.Plan.{TableTrue, Planned}
 use Rattle.store.specs.Ranges.{RangeDone}
 use Rattle.store.specs.Own.{Undone, SlotOwned, RangeOwned, skipsBy}
 use Rattle.store.proofs.RangeLaws.{range-outside}
@@ -24,11 +24,11 @@ use Rattle.store.proofs.OwnLaws.{stop-unfit}
 
 -- ---- kept or undone
 
-pub planned-kept : {back planned cs : List ℕ} → Counted planned cs → fitsPool (length cs) planned ≡ true → Planned back planned true planned cs
+pub planned-kept : {back planned cs : List ℕ} → TableTrue planned cs → fitsPool (length cs) planned ≡ true → Planned back planned true planned cs
 planned-kept h e = record { answer = sym e; words-are = rw e; counted = h }
 
 -- undone in a pool of m blocks
-pub planned-back : {back planned after cs : List ℕ} {m : ℕ} → fitsPool m planned ≡ false → length cs ≡ m → after ≡ back → Counted after cs
+pub planned-back : {back planned after cs : List ℕ} {m : ℕ} → fitsPool m planned ≡ false → length cs ≡ m → after ≡ back → TableTrue after cs
     → Planned back planned false after cs
 planned-back {planned = planned} {cs = cs} e same b h =
     let f : fitsPool (length cs) planned ≡ false = rw same e in

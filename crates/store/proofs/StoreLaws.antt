@@ -16,13 +16,13 @@ use Rattle.xdr.proofs.BytesLaws.{length-splice, put-splice, put-zeroed}
 use Rattle.rules.specs.Lists.{tabulate, each}
 use Rattle.rules.specs.Store.{Geometry, Store}
 use Rattle.rules.specs.Edit.{within, firstSlot, slotCount, slotBytes, overlay, storeSlot}
-use Rattle.rules.proofs.Steps.{storeAt, planWrite, writeBytes}
+use Rattle.rules.proofs.EditSteps.{storeAt, planWrite, writeBytes}
 use Rattle.rules.proofs.GeometryLaws.{Good, block-pos, file-most}
-use Rattle.rules.proofs.FileLaws.{slot-bytes}
-use Rattle.rules.proofs.ViewLaws.{slot-long}
+use Rattle.rules.proofs.SoundStore.{slot-bytes}
+use Rattle.rules.proofs.SlotByteLaws.{slot-long}
 use Rattle.rules.proofs.WriteLaws.{outside, inside}
 use Rattle.rules.proofs.ReadLaws.{tab-zeros}
-use Rattle.store.specs.Bytes.{Starts, Backed, Touched, AllTouched, storeSlots}
+use Rattle.store.specs.SlotBytes.{Starts, Backed, Touched, AllTouched, storeSlots}
 use Rattle.store.proofs.PartLaws.{overlay-ext, overlay-splice, write-part}
 use Rattle.rules.proofs.PlanLaws.{InPool}
 

@@ -13,7 +13,7 @@ use borrow.Author.Tests.{eqb-true, eqb-false, eq-eqb, ne-eqb}
 use Rattle.rules.specs.Lists.{bit}
 use Rattle.rules.specs.Store.{holds, holders}
 use Rattle.store.specs.Tally.{noted, forgot}
-use Rattle.store.specs.Plan.{Counted, Stored}
+use Rattle.store.specs.Plan.{TableTrue, Stored}
 use Rattle.rules.proofs.CountLaws.{count-set}
 use Rattle.rules.proofs.PlanLaws.{inPool-set}
 use Rattle.store.proofs.TallyLaws.{noted-at, count-most}
@@ -57,7 +57,7 @@ holder-there ws i b h e =
     let y : bit (holds b 0) ≡ 0 = rw (ne-eqb 0 (suc b) (λ (q : 0 ≡ suc b). omega arith)) in
     omega (arith, count-set (holds b) ws i 0 h, z, y)
 
-module _ (ws cs : List ℕ) (known : Counted ws cs) (i : ℕ) (inside : i < length ws) where
+module _ (ws cs : List ℕ) (known : TableTrue ws cs) (i : ℕ) (inside : i < length ws) where
   old : ℕ
   old = getD ws i 0 / 2
 

@@ -8,20 +8,19 @@ use native.Mathlib.Omega.{arith}
 use borrow.Author.Tests.{le-leb, not-true, not-false}
 use lib.ListN.{length, getD, set, take, drop, length-drop}
 use lib.Seq.{length-take-le, getD-take, getD-drop, set-getD}
-use lib.Dec.{leb}
 use Rattle.rules.specs.Lists.{ceilDiv, each}
 use Rattle.rules.specs.Store.{Geometry, goodGeometry, Store, sizeOf, need, fitsPool}
 use Rattle.rules.specs.Edit.{within, firstSlot, slotCount, edited, writing}
-use Rattle.rules.proofs.Steps.{own, planWrite, writeBytes}
+use Rattle.rules.proofs.EditSteps.{own, planWrite, writeBytes}
 use Rattle.rules.proofs.GeometryLaws.{Good, good, block-pos, file-most}
 use Rattle.rules.proofs.PlanLaws.{each-sameR, own-sameR, InPool}
-use Rattle.rules.proofs.FileLaws.{Sound, first-before, slots-fit}
+use Rattle.rules.proofs.SoundStore.{Sound, first-before, slots-fit}
 use Rattle.rules.proofs.EditForms.{write-is}
 use Rattle.rules.proofs.SoundLaws.{sound-facts}
-use Rattle.store.specs.Plan.{Counted, Planned}
+use Rattle.store.specs.Plan.{TableTrue, Planned}
 use Rattle.store.specs.Own.{WritePlanned}
-use Rattle.store.specs.Bytes.{AllTouched, storeSlots}
-use Rattle.store.specs.Edits.{EditKnown, EditPromise, RegionKnown, SlotsKnown, Finished}
+use Rattle.store.specs.SlotBytes.{AllTouched, storeSlots}
+use Rattle.store.specs.EditPromises.{EditKnown, EditPromise, RegionKnown, SlotsKnown, Finished}
 use Rattle.store.proofs.SettleLaws.{saved-pool}
 use Rattle.store.proofs.OwnLaws.{plan-write-is}
 use Rattle.store.proofs.StoreLaws.{all-touched, write-bytes-is}
@@ -30,11 +29,11 @@ use Rattle.store.proofs.EdgeLaws.{plan-held}
 -- ---- any edit: its two ways out
 
 pub edit-refused : (g : Geometry) (st planned after : Store) (cs : List ℕ) → fitsPool (g .N) (planned .words) ≡ false
-    → after .sizes ≡ st .sizes → after .words ≡ st .words → after .mem ≡ st .mem → Counted (after .words) cs → EditPromise g st planned false after cs
+    → after .sizes ≡ st .sizes → after .words ≡ st .words → after .mem ≡ st .mem → TableTrue (after .words) cs → EditPromise g st planned false after cs
 edit-refused g st planned after cs e s w m k = record { answer = sym e; sizes-are = rw e s; words-are = rw e w; mem-is = rw e m; counted = k }
 
 pub edit-done : (g : Geometry) (st planned after : Store) (cs : List ℕ) → fitsPool (g .N) (planned .words) ≡ true
-    → after .sizes ≡ planned .sizes → after .words ≡ planned .words → after .mem ≡ planned .mem → Counted (after .words) cs → EditPromise g st planned true after cs
+    → after .sizes ≡ planned .sizes → after .words ≡ planned .words → after .mem ≡ planned .mem → TableTrue (after .words) cs → EditPromise g st planned true after cs
 edit-done g st planned after cs e s w m k = record { answer = sym e; sizes-are = rw e s; words-are = rw e w; mem-is = rw e m; counted = k }
 
 -- ---- the size of a file after an edit up to end

@@ -4,7 +4,7 @@ pub mod Tally
 pub mod Plan
 pub mod Ranges
 pub mod Own
-pub mod Bytes
-pub mod ReadCode
+pub mod SlotBytes
+pub mod Readable
 pub mod Survey
-pub mod Edits
+pub mod EditPromises

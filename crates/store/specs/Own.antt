@@ -8,8 +8,8 @@ use Rattle.xdr.specs.Bytes.{splice}
 use Rattle.rules.specs.Lists.{each}
 use Rattle.rules.specs.Store.{Geometry, isHole, holeOrShared, lowestFree}
 use Rattle.rules.specs.Edit.{owned, givesBack}
-use Rattle.rules.proofs.Steps.{own, ownUnless, giveBack}
-use Rattle.store.specs.Plan.{Counted, Planned}
+use Rattle.rules.proofs.EditSteps.{own, ownUnless, giveBack}
+use Rattle.store.specs.Plan.{TableTrue, Planned}
 
 -- slot i, which is not skipped, takes a block, and none of n is free
 pub record NoneFree (skip : Bool) (ws : List ℕ) (i n : ℕ) : Type 0 where
@@ -20,12 +20,12 @@ pub record NoneFree (skip : Bool) (ws : List ℕ) (i n : ℕ) : Type 0 where
 -- the words old stored from slot i on, the table still true
 pub record Undone (ws : List ℕ) (i : ℕ) (old after counts : List ℕ) : Type 0 where
   pub words-are : after ≡ splice ws i old
-  pub counted : Counted after counts
+  pub counted : TableTrue after counts
 
 -- slot i with an unshared block, or left where it is skipped; not done, and nothing changed, where it takes one and none is free
 pub record SlotOwned (skip : Bool) (ws counts : List ℕ) (i : ℕ) (done : Bool) (after counts′ : List ℕ) : Type 0 where
   pub words-are : after ≡ cond done (cond skip ws (set ws i (owned ws (getD ws i 0)))) ws
-  pub counted : Counted after counts′
+  pub counted : TableTrue after counts′
   pub counts-same : done ≡ false → counts′ ≡ counts
   pub stopped : done ≡ false → NoneFree skip ws i (length counts)
 
@@ -34,7 +34,7 @@ pub record SlotOwned (skip : Bool) (ws counts : List ℕ) (i : ℕ) (done : Bool
 pub record RangeOwned (skip : ℕ → Bool) (ws : List ℕ) (at first n done : ℕ) (after counts : List ℕ) : Type 0 where
   pub most : done ≤ n
   pub words-are : after ≡ each (ownUnless skip at) ws first done
-  pub counted : Counted after counts
+  pub counted : TableTrue after counts
   pub stopped : done < n → NoneFree (skip (first + done)) after (at + (first + done)) (length counts)
 
 -- the plan of a WRITE into the n slots from i on, with their old words

@@ -2,9 +2,9 @@
 use Prim.Native.Nat.{ℕ}
 use mathlib.Core.Path.{_≡_}
 use mathlib.Core.List.{List}
-use Rattle.store.specs.Plan.{Counted}
+use Rattle.store.specs.Plan.{TableTrue}
 
 -- the words are the planned ones, the table of holders true of them
 pub record RangeDone (planned after counts : List ℕ) : Type 0 where
   pub words-are : after ≡ planned
-  pub counted : Counted after counts
+  pub counted : TableTrue after counts

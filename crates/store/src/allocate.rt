@@ -3,7 +3,7 @@ ghost use Prim.Native.Nat.{_+_, _≤_};
 ghost use lib.ListN.{length};
 ghost use Rattle.store.specs.Lent.{geometryOf};
 ghost use Rattle.rules.specs.Edit.{edited, allocating};
-ghost use Rattle.store.specs.Edits.{EditPromise, RegionKnown};
+ghost use Rattle.store.specs.EditPromises.{EditPromise, RegionKnown};
 use crate::edit_plans::plan_allocate;
 use crate::geometry::Geometry;
 use crate::write::grow;

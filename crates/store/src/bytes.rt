@@ -5,7 +5,7 @@ ghost use lib.ListN.{length, getD, take, drop, replicate};
 ghost use Rattle.xdr.specs.Bytes.{splice};
 ghost use Rattle.store.specs.Lent.{geometryOf};
 ghost use Rattle.rules.specs.Edit.{within, slotBytes, storeSlot};
-ghost use Rattle.store.specs.Bytes.{Starts, Backed, Touched, AllTouched, storeSlots, zeroEdge, Edge, AllEdges, zeroSlots};
+ghost use Rattle.store.specs.SlotBytes.{Starts, Backed, Touched, AllTouched, storeSlots, zeroEdge, Edge, AllEdges, zeroSlots};
 use crate::geometry::Geometry;
 use crate::ranges::slot_stays;
 

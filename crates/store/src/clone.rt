@@ -3,7 +3,7 @@ ghost use Prim.Native.Nat.{_<_, _≤_, _+_};
 ghost use lib.ListN.{length};
 ghost use Rattle.store.specs.Lent.{geometryOf};
 ghost use Rattle.rules.specs.Edit.{edited, cloning};
-ghost use Rattle.store.specs.Edits.{EditPromise, CloneKnown};
+ghost use Rattle.store.specs.EditPromises.{EditPromise, CloneKnown};
 use crate::edit_plans::plan_clone;
 use crate::geometry::Geometry;
 use crate::write::grow;

@@ -3,7 +3,7 @@ ghost use Prim.Native.Nat.{_≤_};
 ghost use lib.ListN.{length};
 ghost use Rattle.store.specs.Lent.{geometryOf};
 ghost use Rattle.rules.specs.Edit.{edited, deallocating};
-ghost use Rattle.store.specs.Edits.{EditPromise, CutKnown, CutRegion, CutSlots};
+ghost use Rattle.store.specs.EditPromises.{EditPromise, CutKnown, CutRegion, CutSlots};
 use crate::bytes::zero_edges;
 use crate::edit_plans::plan_deallocate;
 use crate::geometry::Geometry;

@@ -6,9 +6,9 @@ ghost use lib.ListN.{length};
 ghost use Rattle.rules.specs.Lists.{each};
 ghost use Rattle.rules.specs.Store.{goodGeometry, isHole};
 ghost use Rattle.rules.specs.Edit.{givesBack};
-ghost use Rattle.rules.proofs.Steps.{reserve, share};
+ghost use Rattle.rules.proofs.EditSteps.{reserve, share};
 ghost use Rattle.store.specs.Lent.{geometryOf};
-ghost use Rattle.store.specs.Plan.{Counted, Planned};
+ghost use Rattle.store.specs.Plan.{TableTrue, Planned};
 ghost use Rattle.store.specs.Own.{SlotOwned, RangeOwned, skipsBy, DeallocatePlanned};
 use crate::geometry::Geometry;
 use crate::plan::own_slot;
@@ -28,7 +28,7 @@ pub fn plan_allocate(
     n: usize,
     old: &mut [u32],
 ) -> bool
-    requires { ⌜ Counted (now words) (now counts) × ((i + n ≤ length (now words)) × (length (now old) ≡ n)) ⌝ }
+    requires { ⌜ TableTrue (now words) (now counts) × ((i + n ≤ length (now words)) × (length (now old) ≡ n)) ⌝ }
     ensures { λ r. ⌜ Planned (now (words .entry)) (each (reserve i) (now (words .entry)) 0 n) r (now (words .exit)) (now (counts .exit)) ⌝ }
 {
     let end = i + n;
@@ -46,7 +46,7 @@ pub fn plan_clone(
     n: usize,
     old: &mut [u32],
 ) -> bool
-    requires { ⌜ Counted (now words) (now counts) × ((from + n ≤ length (now words)) × ((to + n ≤ length (now words)) × (length (now old) ≡ n))) ⌝ }
+    requires { ⌜ TableTrue (now words) (now counts) × ((from + n ≤ length (now words)) × ((to + n ≤ length (now words)) × (length (now old) ≡ n))) ⌝ }
     ensures { λ r. ⌜ Planned (now (words .entry)) (each (share from to) (now (words .entry)) 0 n) r (now (words .exit)) (now (counts .exit)) ⌝ }
 {
     let end = to + n;
@@ -67,7 +67,7 @@ fn own_edge(
     end: usize,
     w: u32,
 ) -> bool
-    requires { ⌜ Counted (now words) (now counts) × ((i < length (now words)) × ((goodGeometry (geometryOf g) ≡ true) × (k < g .slots))) ⌝ }
+    requires { ⌜ TableTrue (now words) (now counts) × ((i < length (now words)) × ((goodGeometry (geometryOf g) ≡ true) × (k < g .slots))) ⌝ }
     ensures { λ r. ⌜ SlotOwned (givesBack (geometryOf g) size off end k || isHole w) (now (words .entry)) (now (counts .entry)) i r (now (words .exit)) (now (counts .exit)) ⌝ }
 {
     if slot_stays(g, w, size, off, end, k) {
@@ -89,7 +89,7 @@ fn own_edges(
     end: usize,
     old: &[u32],
 ) -> usize
-    requires { ⌜ Counted (now words) (now counts) × ((at + first + n ≤ length (now words)) × ((goodGeometry (geometryOf g) ≡ true) × ((first + n ≤ g .slots) × (length (now old) ≡ n)))) ⌝ }
+    requires { ⌜ TableTrue (now words) (now counts) × ((at + first + n ≤ length (now words)) × ((goodGeometry (geometryOf g) ≡ true) × ((first + n ≤ g .slots) × (length (now old) ≡ n)))) ⌝ }
     ensures { λ r. ⌜ RangeOwned (skipsBy (geometryOf g) size off end first (now (old .entry))) (now (words .entry)) at first n r (now (words .exit)) (now (counts .exit)) ⌝ }
 {
     let mut j = 0;
@@ -116,7 +116,7 @@ pub fn plan_deallocate(
     end: usize,
     old: &mut [u32],
 ) -> bool
-    requires { ⌜ Counted (now words) (now counts) × ((at + first + n ≤ length (now words)) × ((goodGeometry (geometryOf g) ≡ true) × ((first + n ≤ g .slots) × (length (now old) ≡ n)))) ⌝ }
+    requires { ⌜ TableTrue (now words) (now counts) × ((at + first + n ≤ length (now words)) × ((goodGeometry (geometryOf g) ≡ true) × ((first + n ≤ g .slots) × (length (now old) ≡ n)))) ⌝ }
     ensures { λ r. ⌜ DeallocatePlanned (geometryOf g) (now (words .entry)) at first n size off end r (now (words .exit)) (now (counts .exit)) (now (old .exit)) ⌝ }
 {
     let i = at + first;

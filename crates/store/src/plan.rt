@@ -5,7 +5,7 @@ ghost use Prim.Native.Nat.{suc, _+_, _%_, _<_, _≤_};
 ghost use lib.ListN.{length};
 ghost use Rattle.xdr.specs.Bytes.{splice};
 ghost use Rattle.rules.specs.Store.{word, fitsPool};
-ghost use Rattle.store.specs.Plan.{Counted, Planned};
+ghost use Rattle.store.specs.Plan.{TableTrue, Planned};
 ghost use Rattle.store.specs.Own.{Undone, SlotOwned, RangeOwned, WritePlanned};
 ghost use Rattle.rules.proofs.PlanLaws.{InPool};
 use crate::tally::lowest_free;
@@ -16,7 +16,7 @@ use crate::words::set_word;
 
 // Whether used and owed blocks fit the pool.
 pub fn judge(words: &[u32], counts: &[u32]) -> bool
-    requires { ⌜ Counted (now words) (now counts) ⌝ }
+    requires { ⌜ TableTrue (now words) (now counts) ⌝ }
     ensures { λ r. ⌜ r ≡ fitsPool (length (now (counts .entry))) (now (words .entry)) ⌝ }
 {
     used_blocks(counts) + owed_slots(words, counts) <= counts.len()
@@ -35,7 +35,7 @@ pub fn save_words(old: &mut [u32], words: &[u32])
 
 // Stores the words of old from slot i on.
 pub fn undo(words: &mut [u32], counts: &mut [u32], i: usize, old: &[u32])
-    requires { ⌜ Counted (now words) (now counts) × ((i + length (now old) ≤ length (now words)) × InPool (length (now counts)) (now old)) ⌝ }
+    requires { ⌜ TableTrue (now words) (now counts) × ((i + length (now old) ≤ length (now words)) × InPool (length (now counts)) (now old)) ⌝ }
     ensures { λ _. ⌜ Undone (now (words .entry)) i (now (old .entry)) (now (words .exit)) (now (counts .exit)) ⌝ }
 {
     let mut k = 0;
@@ -47,7 +47,7 @@ pub fn undo(words: &mut [u32], counts: &mut [u32], i: usize, old: &[u32])
 
 // Answers whether planned words fit the pool. Where they don't, stores the words of old from slot i on.
 pub fn settle(words: &mut [u32], counts: &mut [u32], i: usize, old: &[u32]) -> bool
-    requires { ⌜ Counted (now words) (now counts) × ((i + length (now old) ≤ length (now words)) × InPool (length (now counts)) (now old)) ⌝ }
+    requires { ⌜ TableTrue (now words) (now counts) × ((i + length (now old) ≤ length (now words)) × InPool (length (now counts)) (now old)) ⌝ }
     ensures { λ r. ⌜ Planned (splice (now (words .entry)) i (now (old .entry))) (now (words .entry)) r (now (words .exit)) (now (counts .exit)) ⌝ }
 {
     if judge(words, counts) {
@@ -67,7 +67,7 @@ fn taken_word(b: usize, w: u32) -> u32
 
 // Gives slot i an unshared block: the one it has, or the lowest free one. Answers false, and changes nothing, where there is none.
 pub fn own_slot(words: &mut [u32], counts: &mut [u32], i: usize) -> bool
-    requires { ⌜ Counted (now words) (now counts) × (i < length (now words)) ⌝ }
+    requires { ⌜ TableTrue (now words) (now counts) × (i < length (now words)) ⌝ }
     ensures { λ r. ⌜ SlotOwned false (now (words .entry)) (now (counts .entry)) i r (now (words .exit)) (now (counts .exit)) ⌝ }
 {
     let w = words[i];
@@ -84,7 +84,7 @@ pub fn own_slot(words: &mut [u32], counts: &mut [u32], i: usize) -> bool
 
 // Gives the n slots from i on unshared blocks, up to the first that finds none. Answers how many have one.
 pub fn own_range(words: &mut [u32], counts: &mut [u32], i: usize, n: usize) -> usize
-    requires { ⌜ Counted (now words) (now counts) × (i + n ≤ length (now words)) ⌝ }
+    requires { ⌜ TableTrue (now words) (now counts) × (i + n ≤ length (now words)) ⌝ }
     ensures { λ r. ⌜ RangeOwned (λ k. false) (now (words .entry)) i 0 n r (now (words .exit)) (now (counts .exit)) ⌝ }
 {
     let mut k = 0;
@@ -105,7 +105,7 @@ pub fn plan_write(
     n: usize,
     old: &mut [u32],
 ) -> bool
-    requires { ⌜ Counted (now words) (now counts) × ((i + n ≤ length (now words)) × (length (now old) ≡ n)) ⌝ }
+    requires { ⌜ TableTrue (now words) (now counts) × ((i + n ≤ length (now words)) × (length (now old) ≡ n)) ⌝ }
     ensures { λ r. ⌜ WritePlanned (now (words .entry)) i n r (now (words .exit)) (now (counts .exit)) (now (old .exit)) ⌝ }
 {
     let end = i + n;

@@ -6,16 +6,16 @@ ghost use lib.ListN.{length};
 ghost use Rattle.rules.specs.Lists.{each};
 ghost use Rattle.rules.specs.Store.{goodGeometry, isHole};
 ghost use Rattle.rules.specs.Edit.{givesBack};
-ghost use Rattle.rules.proofs.Steps.{reserve, share, giveBack};
+ghost use Rattle.rules.proofs.EditSteps.{reserve, share, giveBack};
 ghost use Rattle.store.specs.Lent.{geometryOf};
-ghost use Rattle.store.specs.Plan.{Counted};
+ghost use Rattle.store.specs.Plan.{TableTrue};
 ghost use Rattle.store.specs.Ranges.{RangeDone};
 use crate::geometry::Geometry;
 use crate::words::set_word;
 
 // Sets r in the n slots from i on.
 pub fn reserve_range(words: &mut [u32], counts: &mut [u32], i: usize, n: usize)
-    requires { ⌜ Counted (now words) (now counts) × (i + n ≤ length (now words)) ⌝ }
+    requires { ⌜ TableTrue (now words) (now counts) × (i + n ≤ length (now words)) ⌝ }
     ensures { λ _. ⌜ RangeDone (each (reserve i) (now (words .entry)) 0 n) (now (words .exit)) (now (counts .exit)) ⌝ }
 {
     let mut k = 0;
@@ -28,7 +28,7 @@ pub fn reserve_range(words: &mut [u32], counts: &mut [u32], i: usize, n: usize)
 
 // The n slots from `to` on take the blocks or holes of those from `from` on, and keep their own r.
 pub fn share_range(words: &mut [u32], counts: &mut [u32], from: usize, to: usize, n: usize)
-    requires { ⌜ Counted (now words) (now counts) × ((from + n ≤ length (now words)) × (to + n ≤ length (now words))) ⌝ }
+    requires { ⌜ TableTrue (now words) (now counts) × ((from + n ≤ length (now words)) × (to + n ≤ length (now words))) ⌝ }
     ensures { λ _. ⌜ RangeDone (each (share from to) (now (words .entry)) 0 n) (now (words .exit)) (now (counts .exit)) ⌝ }
 {
     let mut k = 0;
@@ -68,7 +68,7 @@ fn give_back_slot(
     off: usize,
     end: usize,
 )
-    requires { ⌜ Counted (now words) (now counts) × ((at + k < length (now words)) × ((goodGeometry (geometryOf g) ≡ true) × (k < g .slots))) ⌝ }
+    requires { ⌜ TableTrue (now words) (now counts) × ((at + k < length (now words)) × ((goodGeometry (geometryOf g) ≡ true) × (k < g .slots))) ⌝ }
     ensures { λ _. ⌜ RangeDone (giveBack at (givesBack (geometryOf g) size off end) (now (words .entry)) k) (now (words .exit)) (now (counts .exit)) ⌝ }
 {
     if !slot_whole(g, size, off, end, k) {
@@ -89,7 +89,7 @@ pub fn give_back_range(
     off: usize,
     end: usize,
 )
-    requires { ⌜ Counted (now words) (now counts) × ((at + first + n ≤ length (now words)) × ((goodGeometry (geometryOf g) ≡ true) × (first + n ≤ g .slots))) ⌝ }
+    requires { ⌜ TableTrue (now words) (now counts) × ((at + first + n ≤ length (now words)) × ((goodGeometry (geometryOf g) ≡ true) × (first + n ≤ g .slots))) ⌝ }
     ensures { λ _. ⌜ RangeDone (each (giveBack at (givesBack (geometryOf g) size off end)) (now (words .entry)) first n) (now (words .exit)) (now (counts .exit)) ⌝ }
 {
     let last = first + n;

@@ -8,7 +8,7 @@ ghost use Rattle.xdr.specs.Encode.{opaque, opaqueSize};
 ghost use Rattle.store.specs.Lent.{geometryOf};
 ghost use Rattle.rules.specs.Store.{bytesFrom};
 ghost use Rattle.rules.specs.Operation.{dataPiece, holePiece, pieceBytes};
-ghost use Rattle.store.specs.ReadCode.{Readable, InSlot, PieceFits, PiecesFit, PiecesPut, pieceAt, pieceSize};
+ghost use Rattle.store.specs.Readable.{Readable, InSlot, PieceFits, PiecesFit, PiecesPut, pieceAt, pieceSize};
 use crate::geometry::Geometry;
 use crate::seek::hole_at;
 use crate::seek::piece_end;

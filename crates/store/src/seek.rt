@@ -6,7 +6,7 @@ ghost use lib.ListN.{getD};
 ghost use Rattle.store.specs.Lent.{geometryOf};
 ghost use Rattle.rules.specs.Store.{wordOf};
 ghost use Rattle.rules.specs.Read.{seekPlace};
-ghost use Rattle.store.specs.ReadCode.{Placed, PieceEnds, holeIn};
+ghost use Rattle.store.specs.Readable.{Placed, PieceEnds, holeIn};
 use crate::geometry::Geometry;
 
 // The word of the slot in which place i of file f lies.

@@ -3,7 +3,7 @@ ghost use mathlib.Core.Path.{_≡_};
 ghost use Prim.Native.Nat.{_-_, _/_, _<_, _≤_};
 ghost use lib.ListN.{length, getD};
 ghost use Rattle.store.specs.Tally.{forgot};
-ghost use Rattle.store.specs.Plan.{Counted, Stored};
+ghost use Rattle.store.specs.Plan.{TableTrue, Stored};
 use crate::tally::note;
 
 // One holder less of the block of word w; a hole has none.
@@ -20,7 +20,7 @@ fn forget(counts: &mut [u32], w: u32)
 }
 
 pub fn set_word(words: &mut [u32], counts: &mut [u32], i: usize, w: u32)
-    requires { ⌜ Counted (now words) (now counts) × ((i < length (now words)) × (w / 2 ≤ length (now counts))) ⌝ }
+    requires { ⌜ TableTrue (now words) (now counts) × ((i < length (now words)) × (w / 2 ≤ length (now counts))) ⌝ }
     ensures { λ _. ⌜ Stored (now (words .entry)) i w (now (words .exit)) (now (counts .exit)) ⌝ }
 {
     forget(counts, words[i]);

@@ -3,7 +3,7 @@ use Rattle.xdr.specs.Answers.{ofWord}
 use Rattle.xdr.specs.Layout.{uint, boolean, _then_}
 use Rattle.rules.specs.Operation.{cloneArgs}
 use Rattle.compound.specs.Decoded.{ofCloneArgs}
-use Rattle.compound.proofs.DecodeLaws.{at-fault, boolean-fault, boolean-got, both-got, clone-stop, first-fault, next-fault}
+use Rattle.compound.proofs.RequestLaws.{at-fault, boolean-fault, boolean-got, both-got, clone-stop, first-fault, next-fault}
 use borrow.Author.Needs.{needs}
 use Rattle.compound.proofs.decode.copy_args.Statement.{statement}
 use Rattle.compound.proofs.decode.copy_args.Tie as tie

@@ -1,6 +1,6 @@
 use mathlib.Core.Path.{sym, ap, _∙_}
 use Rattle.compound.specs.Decoded.{ofCopyArgs}
-use Rattle.compound.proofs.DecodeLaws.{copy-fault, copy-servers, copy-got}
+use Rattle.compound.proofs.RequestLaws.{copy-fault, copy-servers, copy-got}
 use borrow.Author.Needs.{needs}
 use Rattle.compound.proofs.decode.copy_item.Statement.{statement}
 use Rattle.compound.proofs.decode.copy_item.Tie as tie

@@ -1,7 +1,7 @@
 use mathlib.Core.Path.{sym, ap, _∙_}
 use Rattle.rules.specs.Operation.{regionArgs, three, DEALLOCATE}
 use Rattle.compound.specs.Decoded.{ofRegionArgs}
-use Rattle.compound.proofs.DecodeLaws.{item-fault, item-got}
+use Rattle.compound.proofs.RequestLaws.{item-fault, item-got}
 use borrow.Author.Needs.{needs}
 use Rattle.compound.proofs.decode.deallocate_item.Statement.{statement}
 use Rattle.compound.proofs.decode.deallocate_item.Tie as tie

@@ -1,4 +1,4 @@
-use Rattle.compound.proofs.DecodeLaws.{handle-read}
+use Rattle.compound.proofs.RequestLaws.{handle-read}
 use borrow.Author.Needs.{needs}
 use Rattle.compound.proofs.decode.handle_args.Statement.{statement}
 use Rattle.compound.proofs.decode.handle_args.Tie as tie

@@ -2,7 +2,7 @@ use mathlib.Core.Path.{sym, ap, _∙_}
 use Rattle.xdr.specs.Decode.{opaqueAt}
 use Rattle.xdr.specs.Answers.{ofBytes, ofWord}
 use Rattle.xdr.specs.Layout.{uint, opaqueData, _then_}
-use Rattle.compound.proofs.DecodeLaws.{at-fault, both-got, first-fault, header-fault, header-got, next-fault, opaque-fault, opaque-got}
+use Rattle.compound.proofs.RequestLaws.{at-fault, both-got, first-fault, header-fault, header-got, next-fault, opaque-fault, opaque-got}
 use borrow.Author.Needs.{needs}
 use Rattle.compound.proofs.decode.header.Statement.{statement}
 use Rattle.compound.proofs.decode.header.Tie as tie

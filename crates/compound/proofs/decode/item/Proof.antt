@@ -1,6 +1,6 @@
 use mathlib.Core.Path.{sym, ap, _∙_}
 use Rattle.xdr.specs.Answers.{ofWord}
-use Rattle.compound.proofs.DecodeLaws.{cut-off, by-number}
+use Rattle.compound.proofs.RequestLaws.{cut-off, by-number}
 use borrow.Author.Needs.{needs}
 use Rattle.compound.proofs.decode.item.Statement.{statement}
 use Rattle.compound.proofs.decode.item.Tie as tie

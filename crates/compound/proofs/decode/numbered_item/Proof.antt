@@ -1,5 +1,5 @@
 use mathlib.Core.Path.{_∙_}
-use Rattle.compound.proofs.DecodeLaws.{numbered, not-served}
+use Rattle.compound.proofs.RequestLaws.{numbered, not-served}
 use borrow.Author.Needs.{needs}
 use Rattle.compound.proofs.decode.numbered_item.Statement.{statement}
 use Rattle.compound.proofs.decode.numbered_item.Tie as tie

@@ -1,4 +1,4 @@
-use Rattle.compound.proofs.DecodeLaws.{sequence, too-low, too-high, known}
+use Rattle.compound.proofs.RequestLaws.{sequence, too-low, too-high, known}
 use Rattle.compound.proofs.decode.unserved_item.Statement.{statement}
 use Rattle.compound.proofs.decode.unserved_item.Tie as tie
 

@@ -2,7 +2,7 @@ use mathlib.Core.Path.{sym, ap, _∙_}
 use Rattle.xdr.specs.Answers.{ofBytes, ofLong, ofWord}
 use Rattle.xdr.specs.Layout.{hyper, upToLimit, opaqueData, anyLength, _then_}
 use Rattle.rules.specs.Operation.{stateid}
-use Rattle.compound.proofs.DecodeLaws.{at-fault, both-got, first-fault, fixed-fault, fixed-got, next-fault, opaque-fault, opaque-got}
+use Rattle.compound.proofs.RequestLaws.{at-fault, both-got, first-fault, fixed-fault, fixed-got, next-fault, opaque-fault, opaque-got}
 use borrow.Author.Needs.{needs}
 use Rattle.compound.proofs.decode.write_args.Statement.{statement}
 use Rattle.compound.proofs.decode.write_args.Tie as tie

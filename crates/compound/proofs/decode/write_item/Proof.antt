@@ -1,7 +1,7 @@
 use mathlib.Core.Path.{sym, ap, _∙_}
-use Rattle.rules.specs.Operation.{writeArgs, WRITE}
+use Rattle.rules.specs.Operation.{writeArgs, writeOf}
 use Rattle.compound.specs.Decoded.{ofWriteArgs}
-use Rattle.compound.proofs.DecodeLaws.{item-fault, item-got}
+use Rattle.compound.proofs.RequestLaws.{item-fault, item-got}
 use borrow.Author.Needs.{needs}
 use Rattle.compound.proofs.decode.write_item.Statement.{statement}
 use Rattle.compound.proofs.decode.write_item.Tie as tie
@@ -19,13 +19,13 @@ returns : tie.Need-returns
 returns c =
     let k = c .before .before in
     let s = k .before .before .args .s .now in
-    sym (item-fault writeArgs (λ a. WRITE (a .0) (a .1 .0) (a .1 .1 .0) (a .1 .1 .1)) 38 (sym (k .write-args .ensures) ∙ ap (ofWriteArgs s) (c .enum-told .given .1)))
+    sym (item-fault writeArgs writeOf 38 (sym (k .write-args .ensures) ∙ ap (ofWriteArgs s) (c .enum-told .given .1)))
 
 returns-2 : tie.Need-returns-2
 returns-2 c =
     let k = c .before .before .before in
     let s = k .before .before .args .s .now in
-    sym (item-got writeArgs (λ a. WRITE (a .0) (a .1 .0) (a .1 .1 .0) (a .1 .1 .1)) 38 (sym (k .write-args .ensures) ∙ ap (ofWriteArgs s) (c .before .a .given .1)))
+    sym (item-got writeArgs writeOf 38 (sym (k .write-args .ensures) ∙ ap (ofWriteArgs s) (c .before .a .given .1)))
 
 pub write-item-spec : {M : Type 1} → statement M
 write-item-spec = tie.close (tie.spec write-args-requires enum-known-a enum-told returns returns-2)

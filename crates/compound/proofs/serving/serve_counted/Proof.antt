@@ -1,5 +1,4 @@
 use mathlib.Core.Path.{sym, ap, _∙_}
-use native.Mathlib.Omega.{arith}
 use borrow.Author.Needs.{needs}
 use Rattle.compound.specs.Decoded.{ofHeader}
 use Rattle.compound.proofs.ServeLaws.{refused-3, refused-4, refused-5, refused-6, serves, survey-unsound, survey-sound, table-long, serves-known, tag-short}

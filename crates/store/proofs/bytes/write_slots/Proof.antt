@@ -3,7 +3,7 @@ use native.Mathlib.Omega.{arith}
 use lib.ListN.{length, getD}
 use Rattle.store.specs.Lent.{geometryOf}
 use Rattle.rules.specs.Edit.{within, storeSlot}
-use Rattle.store.specs.Bytes.{storeSlots}
+use Rattle.store.specs.SlotBytes.{storeSlots}
 use Rattle.store.proofs.StoreLaws.{slot-number, Storing, storing-start, storing-turn, storing-end}
 use Rattle.store.proofs.bytes.write_slots.Statement.{statement}
 use Rattle.store.proofs.bytes.write_slots.Tie as tie

@@ -1,5 +1,5 @@
 use mathlib.Core.Path.{sym, _∙_}
-use Rattle.store.specs.Bytes.{zeroEdge}
+use Rattle.store.specs.SlotBytes.{zeroEdge}
 use borrow.Author.Needs.{needs}
 use Rattle.store.proofs.bytes.zero_edge.Statement.{statement}
 use Rattle.store.proofs.bytes.zero_edge.Tie as tie

@@ -2,7 +2,7 @@ use Prim.Native.Nat.{_+_, _*_, _/_, _<_}
 use native.Mathlib.Nat.{le-of-lt, mod-lt}
 use native.Mathlib.Omega.{arith}
 use lib.ListN.{length, getD}
-use Rattle.rules.proofs.FileLaws.{ceil-le}
+use Rattle.rules.proofs.SoundStore.{ceil-le}
 use Rattle.store.proofs.FileTests.{file-room, cut-slot, too-large, slots-fail, whole-slots, part-slot}
 use Rattle.store.proofs.files.file_sound.Statement.{statement}
 use Rattle.store.proofs.files.file_sound.Tie as tie

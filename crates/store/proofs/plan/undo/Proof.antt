@@ -5,7 +5,7 @@ use native.Mathlib.Omega.{arith}
 use lib.ListN.{length, drop}
 use lib.Seq.{sets}
 use borrow.Author.Needs.{needs}
-use Rattle.store.specs.Plan.{Counted}
+use Rattle.store.specs.Plan.{TableTrue}
 use Rattle.store.proofs.OwnLaws.{undo-more, undo-all}
 use Rattle.store.proofs.plan.undo.Statement.{statement}
 use Rattle.store.proofs.plan.undo.Tie as tie
@@ -16,7 +16,7 @@ record Held (words₀ counts₀ : List ℕ) (i : ℕ) (old words counts : List �
   words-long : length words ≡ length words₀
   counts-long : length counts ≡ length counts₀
   same : sets words (i + k) (drop k old) ≡ sets words₀ i old
-  counted : Counted words counts
+  counted : TableTrue words counts
 
 abbrev Inv-loop : tie.InvT-loop
 Inv-loop words₀ counts₀ i old k₀ words counts k = Held words₀ counts₀ i old words counts k

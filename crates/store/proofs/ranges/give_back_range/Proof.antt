@@ -4,7 +4,7 @@ use native.Mathlib.Omega.{arith}
 use Rattle.store.specs.Lent.{geometryOf}
 use Rattle.rules.specs.Lists.{each}
 use Rattle.rules.specs.Edit.{givesBack}
-use Rattle.rules.proofs.Steps.{giveBack}
+use Rattle.rules.proofs.EditSteps.{giveBack}
 use Rattle.store.proofs.RangeLaws.{Ranging, range-start, range-turn, range-end}
 use Rattle.store.proofs.ranges.give_back_range.Statement.{statement}
 use Rattle.store.proofs.ranges.give_back_range.Tie as tie

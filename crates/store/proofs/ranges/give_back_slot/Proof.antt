@@ -1,6 +1,6 @@
 use mathlib.Core.Path.{refl}
 use borrow.Author.Tests.{not-true, not-false}
-use Rattle.rules.proofs.Steps.{giveBack}
+use Rattle.rules.proofs.EditSteps.{giveBack}
 use Rattle.store.proofs.RangeLaws.{stored-done}
 use borrow.Author.Needs.{needs}
 use Rattle.store.proofs.ranges.give_back_slot.Statement.{statement}

@@ -5,7 +5,7 @@ use borrow.Author.Needs.{needs}
 use Rattle.xdr.specs.Encode.{opaque}
 use Rattle.xdr.proofs.BytesLaws.{written-then}
 use Rattle.rules.proofs.GeometryLaws.{good, file-most}
-use Rattle.rules.proofs.ViewLaws.{length-tab}
+use Rattle.rules.proofs.SlotByteLaws.{length-tab}
 use Rattle.store.proofs.PlaceLaws.{readable-to, read-written}
 use Rattle.store.proofs.read.put_file_bytes.Statement.{statement}
 use Rattle.store.proofs.read.put_file_bytes.Tie as tie

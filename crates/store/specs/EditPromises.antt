@@ -5,18 +5,17 @@ use mathlib.Core.Bool.{Bool, true, cond}
 use mathlib.Core.List.{List}
 use mathlib.Core.Logic.{_≢_}
 use lib.ListN.{length, getD, set}
-use lib.Dec.{leb}
-use Rattle.rules.specs.Store.{Geometry, Store, sizeOf, need, sound, fitsPool}
+use Rattle.rules.specs.Store.{Geometry, Store, sizeOf, sound, fitsPool}
 use Rattle.rules.specs.Edit.{within, firstSlot, slotCount}
 use Rattle.store.specs.Tables.{Shaped}
-use Rattle.store.specs.Plan.{Counted}
-use Rattle.store.specs.Bytes.{storeSlots}
+use Rattle.store.specs.Plan.{TableTrue}
+use Rattle.store.specs.SlotBytes.{storeSlots}
 
 -- a sound store with its table of holders, one number for each block, and a file
 pub record EditKnown (g : Geometry) (st : Store) (counts : List ℕ) (f : ℕ) : Type 0 where
   pub shaped : Shaped g st
   pub sound : sound g st ≡ true
-  pub counted : Counted (st .words) counts
+  pub counted : TableTrue (st .words) counts
   pub blocks : length counts ≡ g .N
   pub file : f < g .F
 
@@ -30,7 +29,7 @@ pub record EditPromise (g : Geometry) (st planned : Store) (done : Bool) (after 
   pub sizes-are : after .sizes ≡ judged g st planned .sizes
   pub words-are : after .words ≡ judged g st planned .words
   pub mem-is : after .mem ≡ judged g st planned .mem
-  pub counted : Counted (after .words) counts
+  pub counted : TableTrue (after .words) counts
 
 -- ---- WRITE
 

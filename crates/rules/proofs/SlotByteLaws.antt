@@ -1,5 +1,5 @@
 -- The bytes of every slot, whatever block it holds: what an edit's steps do to them. (v) Only the step's own slot changes.
-use Prim.Native.Nat.{ℕ, zero, suc, pred, _+_, _-_, _*_, _/_, _≤_, _<_}
+use Prim.Native.Nat.{ℕ, zero, suc, pred, _+_, _*_, _/_, _≤_, _<_}
 use mathlib.Core.Path.{_≡_, refl, ap, _∙_}
 use mathlib.Core.Bool.{Bool, true, false, cond, _&&_, not}
 use mathlib.Core.List.{List, [], _∷_}
@@ -13,9 +13,9 @@ use lib.Seq.{getD-set-same, getD-set-other, getD-take, getD-drop}
 use Rattle.xdr.specs.Bytes.{splice}
 use Rattle.xdr.proofs.BytesLaws.{length-splice, splice-in, splice-below, splice-above}
 use Rattle.rules.specs.Lists.{tabulate, each}
-use Rattle.rules.specs.Store.{Geometry, word, isHole, slotByte}
+use Rattle.rules.specs.Store.{Geometry, isHole, slotByte}
 use Rattle.rules.specs.Edit.{owned, slotBytes, overlay, storeSlot}
-use Rattle.rules.proofs.Steps.{own, ownUnless, storeAt, storeUnless}
+use Rattle.rules.proofs.EditSteps.{own, ownUnless, storeAt, storeUnless}
 use Rattle.rules.proofs.PlanLaws.{InPool}
 use Rattle.rules.proofs.PlanLaws.{each-ext, OwnedSlot, own-slot, two-holders, ownUnless-sameR}
 

@@ -13,7 +13,7 @@ use Rattle.xdr.specs.Decode.{Parsed, got, fault, stop, Reader, number, upTo, fi
 use Rattle.xdr.specs.Answers.{ofBytes}
 use Rattle.xdr.specs.Layout.{Layout, boolean, _then_}
 use Rattle.compound.specs.declared.decode.CloneAnswer.{CloneAnswer}
-use Rattle.rules.specs.Operation.{NOTSUPP, BADXDR, OP-ILLEGAL, SEQUENCE-POS, Op, COPY, op, bad, argsItem, reading, readingCopy, five, copyArgs, numberItem, unserved, itemAt, header, headerLayout, readers, find}
+use Rattle.rules.specs.Operation.{NOTSUPP, BADXDR, OP-ILLEGAL, SEQUENCE-POS, Op, COPY, op, bad, argsItem, reading, copyOf, copyArgs, numberItem, unserved, itemAt, header, headerLayout, readers, find}
 use Rattle.compound.specs.Decoded.{ofHandle, ofCloneArgs, cloneStop}
 
 -- ---- one field
@@ -68,22 +68,22 @@ both-got a b e f = rw (e, f)
 
 -- ---- an operation
 
-pub item-fault : {A : Type 0} (l : Layout A) (f : A → Op) (k : ℕ) {s : List ℕ} {at p : ℕ} → l .read s at ≡ fault p → argsItem k (reading l f s at) ≡ bad k BADXDR
+pub item-fault : {A : Type 0} (l : Layout A) (f : A → Op) (k : ℕ) {s : List ℕ} {at p : ℕ} → l .read s at ≡ fault p → argsItem k (reading l (λ a. some (f a)) s at) ≡ bad k BADXDR
 item-fault l f k e = rw e
 
 pub item-got : {A : Type 0} (l : Layout A) (f : A → Op) (k : ℕ) {s : List ℕ} {at : ℕ} {a : A} {m : ℕ} → l .read s at ≡ got a m
-    → argsItem k (reading l f s at) ≡ op (f a) m
+    → argsItem k (reading l (λ a. some (f a)) s at) ≡ op (f a) m
 item-got l f k e = rw e
 
 -- the answer to a COPY: arguments x, consecutive, synchronous, and n source servers
 module _ (s : List ℕ) (at : ℕ) (x : List ℕ × (List ℕ × (ℕ × (ℕ × ℕ)))) (c y : Bool) (n m : ℕ) (e : copyArgs .read s at ≡ got (x, (c, (y, n))) m) where
-  pub copy-servers : (n ≡ 0 → ⊥) → argsItem 60 (readingCopy s at) ≡ bad 60 NOTSUPP
+  pub copy-servers : (n ≡ 0 → ⊥) → argsItem 60 (reading copyArgs copyOf s at) ≡ bad 60 NOTSUPP
   copy-servers h = rw (e, ne-eqb n 0 h)
 
-  pub copy-got : n ≡ 0 → argsItem 60 (readingCopy s at) ≡ op (five (λ i j f t k. COPY i j f t k c y) x) m
+  pub copy-got : n ≡ 0 → argsItem 60 (reading copyArgs copyOf s at) ≡ op (COPY (x .0) (x .1 .0) (x .1 .1 .0) (x .1 .1 .1 .0) (x .1 .1 .1 .1) c y) m
   copy-got h = rw (e, eq-eqb n 0 h)
 
-pub copy-fault : (s : List ℕ) (at : ℕ) {p : ℕ} → copyArgs .read s at ≡ fault p → argsItem 60 (readingCopy s at) ≡ bad 60 BADXDR
+pub copy-fault : (s : List ℕ) (at : ℕ) {p : ℕ} → copyArgs .read s at ≡ fault p → argsItem 60 (reading copyArgs copyOf s at) ≡ bad 60 BADXDR
 copy-fault s at e = rw e
 
 -- ---- an operation by its number
@@ -91,20 +91,19 @@ copy-fault s at e = rw e
 pub numbered : (s : List ℕ) (m : ℕ) {n k : ℕ} → n ≡ k → numberItem s (got k m) ≡ numberItem s (got n m)
 numbered s m e = ap (λ (x : ℕ). numberItem s (got x m)) (sym e)
 
--- n is none of these numbers
-abbrev pub NoneOf : ℕ → List ℕ → Type 0
-NoneOf n [] = Unit {0}
-NoneOf n (k ∷ ks) = NoneOf n ks × (n ≡ k → ⊥)
+-- n is the number of none of these readers; `before` is what is known already
+abbrev pub NoneOf : ℕ → Type 0 → List (ℕ × Reader (Option Op)) → Type 0
+NoneOf n before [] = before
+NoneOf n before (r ∷ rs) = NoneOf n (before × (n ≡ r .0 → ⊥)) rs
 
-abbrev pub servedNumbers : List ℕ
-servedNumbers = 71 ∷ 69 ∷ 68 ∷ 62 ∷ 60 ∷ 59 ∷ 38 ∷ 32 ∷ 31 ∷ 25 ∷ 22 ∷ 10 ∷ []
+none-found : (n : ℕ) (before : Type 0) (rs : List (ℕ × Reader (Option Op))) → NoneOf n before rs → before × (find n rs ≡ none)
+none-found n before [] h = (h, refl)
+none-found n before (r ∷ rs) h =
+    let t = none-found n (before × (n ≡ r .0 → ⊥)) rs h in
+    (t .0 .0, rw (ne-eqb n (r .0) (t .0 .1)) (t .1))
 
-no-args : (n : ℕ) → NoneOf n servedNumbers → find n readers ≡ none
-no-args n ((((((((((((u, a), b), c), d), e), f), g), h), i), j), k), l) =
-    rw (ne-eqb n 10 a, ne-eqb n 22 b, ne-eqb n 25 c, ne-eqb n 31 d, ne-eqb n 32 e, ne-eqb n 38 f, ne-eqb n 59 g, ne-eqb n 60 h, ne-eqb n 62 i, ne-eqb n 68 j, ne-eqb n 69 k, ne-eqb n 71 l)
-
-pub not-served : (s : List ℕ) (n m : ℕ) → NoneOf n servedNumbers → unserved n ≡ numberItem s (got n m)
-not-served s n m h = sym (ap (λ (o : Option (Reader (Option Op))). elim o [ none ↦ unserved n | some r ↦ argsItem n (r s m) ]) (no-args n h))
+pub not-served : (s : List ℕ) (n m : ℕ) → NoneOf n (Unit {0}) readers → unserved n ≡ numberItem s (got n m)
+not-served s n m h = sym (ap (λ (o : Option (Reader (Option Op))). elim o [ none ↦ unserved n | some r ↦ argsItem n (r s m) ]) (none-found n (Unit {0}) readers h .1))
 
 pub sequence : (n : ℕ) → n ≡ 53 → bad n SEQUENCE-POS ≡ unserved n
 sequence n e = rw e

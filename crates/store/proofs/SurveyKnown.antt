@@ -7,16 +7,16 @@ use native.Mathlib.Omega.{arith}
 use lib.ListN.{length}
 use Rattle.rules.specs.Store.{Geometry, Store, sound}
 use Rattle.store.specs.Survey.{Surveyed}
-use Rattle.store.specs.Plan.{Counted}
+use Rattle.store.specs.Plan.{TableTrue}
 use Rattle.store.specs.Tables.{Shaped, Tallied}
-use Rattle.store.specs.Edits.{EditKnown}
+use Rattle.store.specs.EditPromises.{EditKnown}
 use Rattle.rules.proofs.GeometryLaws.{good, block-pos, slots-all, lengths}
 use Rattle.rules.proofs.SoundLaws.{sound-facts}
 use Rattle.store.proofs.SlotLaws.{number-shaped, number-sound}
 
 -- the words of a sound store, with a true table of one number for each block
 pub sound-counted : (g : Geometry) (st : Store) (counts : List ℕ) → Shaped g st → sound g st ≡ true → Tallied (st .words) counts → length counts ≡ g .N
-    → Counted (st .words) counts
+    → TableTrue (st .words) counts
 sound-counted g st counts h s t n =
     let facts = sound-facts g (block-pos (good g (h .geometry))) st (h .lengths) s in
     record {

@@ -8,7 +8,7 @@ use lib.ListN.{length, getD}
 use Rattle.rules.specs.Lists.{each}
 use Rattle.rules.specs.Store.{Geometry, goodGeometry, isHole, wordOf}
 use Rattle.rules.specs.Edit.{within, storeSlot, givesBack}
-use Rattle.store.specs.ReadCode.{Readable}
+use Rattle.store.specs.Readable.{Readable}
 
 -- the block of word w starts at r
 pub record Starts (g : Geometry) (w r : ℕ) : Type 0 where

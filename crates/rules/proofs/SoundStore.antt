@@ -11,7 +11,7 @@ use Rattle.rules.specs.Lists.{ceilDiv, each}
 use Rattle.rules.specs.Store.{Geometry, Store, sizeOf, wordOf, used, owed, byteAt}
 use Rattle.rules.specs.Edit.{firstSlot, slotCount}
 use Rattle.rules.proofs.PlanLaws.{InPool}
-use Rattle.rules.proofs.ViewLaws.{Local, plan-before, plan-after}
+use Rattle.rules.proofs.SlotByteLaws.{Local, plan-before, plan-after}
 
 -- ---- places and slots
 

@@ -11,12 +11,14 @@ use Rattle.xdr.specs.Encode.{u32, concatMap}
 use Rattle.rules.specs.Store.{Geometry, Store, sound}
 use Rattle.rules.specs.Operation.{op, bad, itemAt, Header}
 use Rattle.rules.specs.Run.{State, Event, failed, perform, config}
-use Rattle.rules.specs.Calls.{resultBytes, placeAfter, lastPlace, lastStatus, lastStore}
+use Rattle.rules.specs.Calls.{resultBytes, placeAfter, lastPlace, lastStatus, lastStore, Call, Outcome}
+use Rattle.store.specs.Lent.{Held}
 use Rattle.store.specs.Tables.{Shaped}
 use Rattle.store.specs.Plan.{TableTrue}
 use Rattle.compound.specs.declared.answer.Handle.{Handle}
 use Rattle.compound.specs.declared.answer.Answer.{Answer}
 use Rattle.compound.specs.declared.run.Progress.{Progress}
+use Rattle.compound.specs.declared.serving.Served.{Served}
 
 -- ---- the state
 
@@ -126,6 +128,14 @@ pub record Serves (g : Geometry) (v s : List ℕ) (st : Store) (counts reply : L
   pub verifier : length v ≡ 8
   pub request : length s ≤ 65536
   pub room : 32768 ≤ length reply
+
+-- ---- the call, as its contract names it
+
+abbrev pub call : Geometry → Held → Held → Held → Call
+call g v s reply = record { config = config g (v .entry .now); request = s .entry .now; buffer = reply .entry .now }
+
+abbrev pub outcome : Served → Held → Store → Outcome Store
+outcome r reply st = record { number = r .number; read = r .read; written = r .written; reply = reply .exit .now; store = st }
 
 -- the header that the code's reader found in request s
 abbrev pub headerOf : List ℕ → Span → ℕ → ℕ → Header

@@ -10,7 +10,7 @@ ghost use Rattle.xdr.specs.Bytes.{partOf};
 ghost use Rattle.rules.specs.Lists.{first};
 ghost use Rattle.rules.specs.Store.{goodGeometry, Store};
 ghost use Rattle.rules.specs.Run.{State, zeroStateid, readStateid, errors, perform, overlap, uneven, config};
-ghost use Rattle.store.specs.Lent.{geometryOf};
+ghost use Rattle.store.specs.Lent.{geometryOf, after, before, tables};
 ghost use Rattle.store.specs.EditPromises.{EditKnown};
 ghost use Rattle.compound.specs.Decoded.{meaning};
 ghost use Rattle.compound.specs.Runner.{stateOf, Runs, Done, Answered};
@@ -159,9 +159,9 @@ fn copy_status(
     f: usize,
     a: CopyArgs,
 ) -> u32
-    requires { ⌜ EditKnown (geometryOf g) (record { sizes = now sizes; words = now words; mem = now mem }) (now counts) f × (e < geometryOf g .F) ⌝ }
-    ensures { λ r. ⌜ ((v : List ℕ) (x : State) (next : ℕ) → x .saved ≡ some e → x .current ≡ some f → x .store ≡ record { sizes = now (sizes .entry); words = now (words .entry); mem = now (mem .entry) }
-        → Done (perform (config (geometryOf g) v) x (meaning (now (s .entry)) (Operation.Copy a)) next) r (record { sizes = now (sizes .exit); words = now (words .exit); mem = now (mem .exit) }) (now (counts .exit))) ⌝ }
+    requires { ⌜ EditKnown (geometryOf g) (tables sizes words mem) (now counts) f × (e < geometryOf g .F) ⌝ }
+    ensures { λ r. ⌜ ((v : List ℕ) (x : State) (next : ℕ) → x .saved ≡ some e → x .current ≡ some f → x .store ≡ (before sizes words mem)
+        → Done (perform (config (geometryOf g) v) x (meaning (now (s .entry)) (Operation.Copy a)) next) r (after sizes words mem) (now (counts .exit))) ⌝ }
 {
     let error = copy_error(g, sizes, s, e, f, a);
     if error != 0 {
@@ -197,9 +197,9 @@ fn clone_status(
     f: usize,
     a: CloneArgs,
 ) -> u32
-    requires { ⌜ EditKnown (geometryOf g) (record { sizes = now sizes; words = now words; mem = now mem }) (now counts) f × (e < geometryOf g .F) ⌝ }
-    ensures { λ r. ⌜ ((v : List ℕ) (x : State) (next : ℕ) → x .saved ≡ some e → x .current ≡ some f → x .store ≡ record { sizes = now (sizes .entry); words = now (words .entry); mem = now (mem .entry) }
-        → Done (perform (config (geometryOf g) v) x (meaning (now (s .entry)) (Operation.Clone a)) next) r (record { sizes = now (sizes .exit); words = now (words .exit); mem = now (mem .entry) }) (now (counts .exit))) ⌝ }
+    requires { ⌜ EditKnown (geometryOf g) (tables sizes words mem) (now counts) f × (e < geometryOf g .F) ⌝ }
+    ensures { λ r. ⌜ ((v : List ℕ) (x : State) (next : ℕ) → x .saved ≡ some e → x .current ≡ some f → x .store ≡ (before sizes words mem)
+        → Done (perform (config (geometryOf g) v) x (meaning (now (s .entry)) (Operation.Clone a)) next) r (tables (sizes .exit) (words .exit) (mem .entry)) (now (counts .exit))) ⌝ }
 {
     let error = clone_error(g, sizes, s, e, f, a);
     if error != 0 {
@@ -237,11 +237,11 @@ pub fn copy(
     reply: &mut [u8],
     at: usize,
 ) -> Answer
-    requires { ⌜ Runs (geometryOf g) (now v) (now s) (stateOf current saved (record { sizes = now sizes; words = now words; mem = now mem })) (now counts) (now reply) at ⌝ }
+    requires { ⌜ Runs (geometryOf g) (now v) (now s) (stateOf current saved (tables sizes words mem)) (now counts) (now reply) at ⌝ }
     ensures { λ r. ⌜ ((next : ℕ) → Answered
-        (perform (config (geometryOf g) (now (v .entry))) (stateOf current saved (record { sizes = now (sizes .entry); words = now (words .entry); mem = now (mem .entry) }))
+        (perform (config (geometryOf g) (now (v .entry))) (stateOf current saved (before sizes words mem))
         (meaning (now (s .entry)) (Operation.Copy a)) next)
-        r (record { sizes = now (sizes .exit); words = now (words .exit); mem = now (mem .exit) }) (now (counts .exit)) at (now (reply .entry)) (now (reply .exit))) ⌝ }
+        r (after sizes words mem) (now (counts .exit)) at (now (reply .entry)) (now (reply .exit))) ⌝ }
 {
     let Handle::File(e) = saved else {
         return without_body(
@@ -293,11 +293,11 @@ pub fn clone(
     reply: &mut [u8],
     at: usize,
 ) -> Answer
-    requires { ⌜ Runs (geometryOf g) (now v) (now s) (stateOf current saved (record { sizes = now sizes; words = now words; mem = now mem })) (now counts) (now reply) at ⌝ }
+    requires { ⌜ Runs (geometryOf g) (now v) (now s) (stateOf current saved (tables sizes words mem)) (now counts) (now reply) at ⌝ }
     ensures { λ r. ⌜ ((next : ℕ) → Answered
-        (perform (config (geometryOf g) (now (v .entry))) (stateOf current saved (record { sizes = now (sizes .entry); words = now (words .entry); mem = now (mem .entry) }))
+        (perform (config (geometryOf g) (now (v .entry))) (stateOf current saved (before sizes words mem))
         (meaning (now (s .entry)) (Operation.Clone a)) next)
-        r (record { sizes = now (sizes .exit); words = now (words .exit); mem = now (mem .entry) }) (now (counts .exit)) at (now (reply .entry)) (now (reply .exit))) ⌝ }
+        r (tables (sizes .exit) (words .exit) (mem .entry)) (now (counts .exit)) at (now (reply .entry)) (now (reply .exit))) ⌝ }
 {
     let Handle::File(e) = saved else {
         return without_body(

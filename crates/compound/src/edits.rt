@@ -8,7 +8,7 @@ ghost use lib.ListN.{length};
 ghost use Rattle.rules.specs.Lists.{first};
 ghost use Rattle.rules.specs.Store.{goodGeometry};
 ghost use Rattle.rules.specs.Run.{State, noFile, errors, perform, config};
-ghost use Rattle.store.specs.Lent.{geometryOf};
+ghost use Rattle.store.specs.Lent.{geometryOf, after, before, tables};
 ghost use Rattle.store.specs.EditPromises.{EditKnown};
 ghost use Rattle.compound.specs.Decoded.{meaning};
 ghost use Rattle.compound.specs.Runner.{stateOf, Runs, Done, Answered};
@@ -91,9 +91,9 @@ fn write_status(
     f: usize,
     a: WriteArgs,
 ) -> u32
-    requires { ⌜ EditKnown (geometryOf g) (record { sizes = now sizes; words = now words; mem = now mem }) (now counts) f ⌝ }
-    ensures { λ r. ⌜ ((v : List ℕ) (x : State) (next : ℕ) → x .current ≡ some f → x .store ≡ record { sizes = now (sizes .entry); words = now (words .entry); mem = now (mem .entry) }
-        → Done (perform (config (geometryOf g) v) x (meaning (now (s .entry)) (Operation.Write a)) next) r (record { sizes = now (sizes .exit); words = now (words .exit); mem = now (mem .exit) }) (now (counts .exit))) ⌝ }
+    requires { ⌜ EditKnown (geometryOf g) (tables sizes words mem) (now counts) f ⌝ }
+    ensures { λ r. ⌜ ((v : List ℕ) (x : State) (next : ℕ) → x .current ≡ some f → x .store ≡ (before sizes words mem)
+        → Done (perform (config (geometryOf g) v) x (meaning (now (s .entry)) (Operation.Write a)) next) r (after sizes words mem) (now (counts .exit))) ⌝ }
 {
     let e = write_error(g, s, a);
     if e != 0 {
@@ -116,9 +116,9 @@ fn allocate_status(
     f: usize,
     a: RegionArgs,
 ) -> u32
-    requires { ⌜ EditKnown (geometryOf g) (record { sizes = now sizes; words = now words; mem = now mem }) (now counts) f ⌝ }
-    ensures { λ r. ⌜ ((v : List ℕ) (x : State) (next : ℕ) → x .current ≡ some f → x .store ≡ record { sizes = now (sizes .entry); words = now (words .entry); mem = now (mem .entry) }
-        → Done (perform (config (geometryOf g) v) x (meaning (now (s .entry)) (Operation.Allocate a)) next) r (record { sizes = now (sizes .exit); words = now (words .exit); mem = now (mem .entry) }) (now (counts .exit))) ⌝ }
+    requires { ⌜ EditKnown (geometryOf g) (tables sizes words mem) (now counts) f ⌝ }
+    ensures { λ r. ⌜ ((v : List ℕ) (x : State) (next : ℕ) → x .current ≡ some f → x .store ≡ (before sizes words mem)
+        → Done (perform (config (geometryOf g) v) x (meaning (now (s .entry)) (Operation.Allocate a)) next) r (tables (sizes .exit) (words .exit) (mem .entry)) (now (counts .exit))) ⌝ }
 {
     let e = allocate_error(g, s, a);
     if e != 0 {
@@ -154,9 +154,9 @@ fn deallocate_status(
     f: usize,
     a: RegionArgs,
 ) -> u32
-    requires { ⌜ EditKnown (geometryOf g) (record { sizes = now sizes; words = now words; mem = now mem }) (now counts) f ⌝ }
-    ensures { λ r. ⌜ ((v : List ℕ) (x : State) (next : ℕ) → x .current ≡ some f → x .store ≡ record { sizes = now (sizes .entry); words = now (words .entry); mem = now (mem .entry) }
-        → Done (perform (config (geometryOf g) v) x (meaning (now (s .entry)) (Operation.Deallocate a)) next) r (record { sizes = now (sizes .entry); words = now (words .exit); mem = now (mem .exit) }) (now (counts .exit))) ⌝ }
+    requires { ⌜ EditKnown (geometryOf g) (tables sizes words mem) (now counts) f ⌝ }
+    ensures { λ r. ⌜ ((v : List ℕ) (x : State) (next : ℕ) → x .current ≡ some f → x .store ≡ (before sizes words mem)
+        → Done (perform (config (geometryOf g) v) x (meaning (now (s .entry)) (Operation.Deallocate a)) next) r (tables (sizes .entry) (words .exit) (mem .exit)) (now (counts .exit))) ⌝ }
 {
     let e = deallocate_error(g, s, a);
     if e != 0 {
@@ -183,11 +183,11 @@ pub fn write(
     reply: &mut [u8],
     at: usize,
 ) -> Answer
-    requires { ⌜ Runs (geometryOf g) (now v) (now s) (stateOf current saved (record { sizes = now sizes; words = now words; mem = now mem })) (now counts) (now reply) at ⌝ }
+    requires { ⌜ Runs (geometryOf g) (now v) (now s) (stateOf current saved (tables sizes words mem)) (now counts) (now reply) at ⌝ }
     ensures { λ r. ⌜ ((next : ℕ) → Answered
-        (perform (config (geometryOf g) (now (v .entry))) (stateOf current saved (record { sizes = now (sizes .entry); words = now (words .entry); mem = now (mem .entry) }))
+        (perform (config (geometryOf g) (now (v .entry))) (stateOf current saved (before sizes words mem))
         (meaning (now (s .entry)) (Operation.Write a)) next)
-        r (record { sizes = now (sizes .exit); words = now (words .exit); mem = now (mem .exit) }) (now (counts .exit)) at (now (reply .entry)) (now (reply .exit))) ⌝ }
+        r (after sizes words mem) (now (counts .exit)) at (now (reply .entry)) (now (reply .exit))) ⌝ }
 {
     let Handle::File(f) = current else {
         return without_body(
@@ -227,11 +227,11 @@ pub fn allocate(
     reply: &mut [u8],
     at: usize,
 ) -> Answer
-    requires { ⌜ Runs (geometryOf g) (now v) (now s) (stateOf current saved (record { sizes = now sizes; words = now words; mem = now mem })) (now counts) (now reply) at ⌝ }
+    requires { ⌜ Runs (geometryOf g) (now v) (now s) (stateOf current saved (tables sizes words mem)) (now counts) (now reply) at ⌝ }
     ensures { λ r. ⌜ ((next : ℕ) → Answered
-        (perform (config (geometryOf g) (now (v .entry))) (stateOf current saved (record { sizes = now (sizes .entry); words = now (words .entry); mem = now (mem .entry) }))
+        (perform (config (geometryOf g) (now (v .entry))) (stateOf current saved (before sizes words mem))
         (meaning (now (s .entry)) (Operation.Allocate a)) next)
-        r (record { sizes = now (sizes .exit); words = now (words .exit); mem = now (mem .entry) }) (now (counts .exit)) at (now (reply .entry)) (now (reply .exit))) ⌝ }
+        r (tables (sizes .exit) (words .exit) (mem .entry)) (now (counts .exit)) at (now (reply .entry)) (now (reply .exit))) ⌝ }
 {
     let Handle::File(f) = current else {
         return without_body(
@@ -261,11 +261,11 @@ pub fn deallocate(
     reply: &mut [u8],
     at: usize,
 ) -> Answer
-    requires { ⌜ Runs (geometryOf g) (now v) (now s) (stateOf current saved (record { sizes = now sizes; words = now words; mem = now mem })) (now counts) (now reply) at ⌝ }
+    requires { ⌜ Runs (geometryOf g) (now v) (now s) (stateOf current saved (tables sizes words mem)) (now counts) (now reply) at ⌝ }
     ensures { λ r. ⌜ ((next : ℕ) → Answered
-        (perform (config (geometryOf g) (now (v .entry))) (stateOf current saved (record { sizes = now (sizes .entry); words = now (words .entry); mem = now (mem .entry) }))
+        (perform (config (geometryOf g) (now (v .entry))) (stateOf current saved (before sizes words mem))
         (meaning (now (s .entry)) (Operation.Deallocate a)) next)
-        r (record { sizes = now (sizes .entry); words = now (words .exit); mem = now (mem .exit) }) (now (counts .exit)) at (now (reply .entry)) (now (reply .exit))) ⌝ }
+        r (tables (sizes .entry) (words .exit) (mem .exit)) (now (counts .exit)) at (now (reply .entry)) (now (reply .exit))) ⌝ }
 {
     let Handle::File(f) = current else {
         return without_body(

@@ -7,7 +7,7 @@ ghost use lib.ListN.{length, getD};
 ghost use lib.Dec.{leb};
 ghost use Rattle.xdr.specs.Bytes.{Written};
 ghost use Rattle.rules.specs.Store as G;
-ghost use Rattle.store.specs.Lent.{geometryOf};
+ghost use Rattle.store.specs.Lent.{geometryOf, before, tables};
 ghost use Rattle.rules.specs.Lists.{first};
 ghost use Rattle.rules.specs.Store.{Store};
 ghost use Rattle.rules.specs.Read.{granted};
@@ -80,9 +80,9 @@ fn put_read(
     reply: &mut [u8],
     at: usize,
 ) -> usize
-    requires { ⌜ Shows (geometryOf g) (record { sizes = now sizes; words = now words; mem = now mem }) f (now reply) at ⌝ }
-    ensures { λ r. ⌜ Written (readReply (geometryOf g) (record { sizes = now (sizes .entry); words = now (words .entry); mem = now (mem .entry) }) f off n)
-        (length (readReply (geometryOf g) (record { sizes = now (sizes .entry); words = now (words .entry); mem = now (mem .entry) }) f off n)) at (now (reply .entry)) (now (reply .exit)) r ⌝ }
+    requires { ⌜ Shows (geometryOf g) (tables sizes words mem) f (now reply) at ⌝ }
+    ensures { λ r. ⌜ Written (readReply (geometryOf g) (before sizes words mem) f off n)
+        (length (readReply (geometryOf g) (before sizes words mem) f off n)) at (now (reply .entry)) (now (reply .exit)) r ⌝ }
 {
     let size = sizes[f];
     let data = xdr::put_bool(reply, at, reaches(size, off, grant(n)));
@@ -105,9 +105,9 @@ fn put_read_plus(
     reply: &mut [u8],
     at: usize,
 ) -> usize
-    requires { ⌜ Shows (geometryOf g) (record { sizes = now sizes; words = now words; mem = now mem }) f (now reply) at ⌝ }
-    ensures { λ r. ⌜ Written (readPlusReply (geometryOf g) (record { sizes = now (sizes .entry); words = now (words .entry); mem = now (mem .entry) }) f off n)
-        (length (readPlusReply (geometryOf g) (record { sizes = now (sizes .entry); words = now (words .entry); mem = now (mem .entry) }) f off n)) at (now (reply .entry)) (now (reply .exit)) r ⌝ }
+    requires { ⌜ Shows (geometryOf g) (tables sizes words mem) f (now reply) at ⌝ }
+    ensures { λ r. ⌜ Written (readPlusReply (geometryOf g) (before sizes words mem) f off n)
+        (length (readPlusReply (geometryOf g) (before sizes words mem) f off n)) at (now (reply .entry)) (now (reply .exit)) r ⌝ }
 {
     let size = sizes[f];
     let number = xdr::put_bool(reply, at, reaches(size, off, grant(n)));
@@ -129,9 +129,9 @@ fn put_seek(
     reply: &mut [u8],
     at: usize,
 ) -> usize
-    requires { ⌜ Shows (geometryOf g) (record { sizes = now sizes; words = now words; mem = now mem }) f (now reply) at ⌝ }
-    ensures { λ r. ⌜ Written (seekReply (geometryOf g) (record { sizes = now (sizes .entry); words = now (words .entry); mem = now (mem .entry) }) f off what)
-        (length (seekReply (geometryOf g) (record { sizes = now (sizes .entry); words = now (words .entry); mem = now (mem .entry) }) f off what)) at (now (reply .entry)) (now (reply .exit)) r ⌝ }
+    requires { ⌜ Shows (geometryOf g) (tables sizes words mem) f (now reply) at ⌝ }
+    ensures { λ r. ⌜ Written (seekReply (geometryOf g) (before sizes words mem) f off what)
+        (length (seekReply (geometryOf g) (before sizes words mem) f off what)) at (now (reply .entry)) (now (reply .exit)) r ⌝ }
 {
     let size = sizes[f];
     let p = store::seek_file(g, words, size, f, what == 1, off);
@@ -151,11 +151,11 @@ pub fn read(
     reply: &mut [u8],
     at: usize,
 ) -> Answer
-    requires { ⌜ Known (geometryOf g) (stateOf current saved (record { sizes = now sizes; words = now words; mem = now mem })) × (at + 2179 ≤ length (now reply)) ⌝ }
+    requires { ⌜ Known (geometryOf g) (stateOf current saved (tables sizes words mem)) × (at + 2179 ≤ length (now reply)) ⌝ }
     ensures { λ r. ⌜ ((v counts : List ℕ) (next : ℕ) → TableTrue (now (words .entry)) counts → Answered
-        (perform (config (geometryOf g) v) (stateOf current saved (record { sizes = now (sizes .entry); words = now (words .entry); mem = now (mem .entry) }))
+        (perform (config (geometryOf g) v) (stateOf current saved (before sizes words mem))
         (meaning (now (s .entry)) (Operation.Read a)) next)
-        r (record { sizes = now (sizes .entry); words = now (words .entry); mem = now (mem .entry) }) counts at (now (reply .entry)) (now (reply .exit))) ⌝ }
+        r (before sizes words mem) counts at (now (reply .entry)) (now (reply .exit))) ⌝ }
 {
     let Handle::File(f) = current else {
         return without_body(
@@ -199,11 +199,11 @@ pub fn read_plus(
     reply: &mut [u8],
     at: usize,
 ) -> Answer
-    requires { ⌜ Known (geometryOf g) (stateOf current saved (record { sizes = now sizes; words = now words; mem = now mem })) × (at + 2179 ≤ length (now reply)) ⌝ }
+    requires { ⌜ Known (geometryOf g) (stateOf current saved (tables sizes words mem)) × (at + 2179 ≤ length (now reply)) ⌝ }
     ensures { λ r. ⌜ ((v counts : List ℕ) (next : ℕ) → TableTrue (now (words .entry)) counts → Answered
-        (perform (config (geometryOf g) v) (stateOf current saved (record { sizes = now (sizes .entry); words = now (words .entry); mem = now (mem .entry) }))
+        (perform (config (geometryOf g) v) (stateOf current saved (before sizes words mem))
         (meaning (now (s .entry)) (Operation.ReadPlus a)) next)
-        r (record { sizes = now (sizes .entry); words = now (words .entry); mem = now (mem .entry) }) counts at (now (reply .entry)) (now (reply .exit))) ⌝ }
+        r (before sizes words mem) counts at (now (reply .entry)) (now (reply .exit))) ⌝ }
 {
     let Handle::File(f) = current else {
         return without_body(
@@ -264,11 +264,11 @@ pub fn seek(
     reply: &mut [u8],
     at: usize,
 ) -> Answer
-    requires { ⌜ Known (geometryOf g) (stateOf current saved (record { sizes = now sizes; words = now words; mem = now mem })) × (at + 2179 ≤ length (now reply)) ⌝ }
+    requires { ⌜ Known (geometryOf g) (stateOf current saved (tables sizes words mem)) × (at + 2179 ≤ length (now reply)) ⌝ }
     ensures { λ r. ⌜ ((v counts : List ℕ) (next : ℕ) → TableTrue (now (words .entry)) counts → Answered
-        (perform (config (geometryOf g) v) (stateOf current saved (record { sizes = now (sizes .entry); words = now (words .entry); mem = now (mem .entry) }))
+        (perform (config (geometryOf g) v) (stateOf current saved (before sizes words mem))
         (meaning (now (s .entry)) (Operation.Seek a)) next)
-        r (record { sizes = now (sizes .entry); words = now (words .entry); mem = now (mem .entry) }) counts at (now (reply .entry)) (now (reply .exit))) ⌝ }
+        r (before sizes words mem) counts at (now (reply .entry)) (now (reply .exit))) ⌝ }
 {
     let Handle::File(f) = current else {
         return without_body(

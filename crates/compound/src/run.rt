@@ -2,7 +2,7 @@
 ghost use mathlib.Core.List.{List};
 ghost use Prim.Native.Nat.{ℕ, _+_, _<_, _≤_};
 ghost use lib.ListN.{length};
-ghost use Rattle.store.specs.Lent.{geometryOf};
+ghost use Rattle.store.specs.Lent.{geometryOf, after, before, tables};
 ghost use Rattle.rules.specs.Store.{Store};
 ghost use Rattle.rules.specs.Operation.{bad, items};
 ghost use Rattle.rules.specs.Run.{failed, perform, reached, config};
@@ -48,11 +48,11 @@ fn operation(
     reply: &mut [u8],
     at: usize,
 ) -> Answer
-    requires { ⌜ Runs (geometryOf g) (now v) (now s) (stateOf current saved (record { sizes = now sizes; words = now words; mem = now mem })) (now counts) (now reply) at ⌝ }
+    requires { ⌜ Runs (geometryOf g) (now v) (now s) (stateOf current saved (tables sizes words mem)) (now counts) (now reply) at ⌝ }
     ensures { λ r. ⌜ ((next : ℕ) → Answered
-        (perform (config (geometryOf g) (now (v .entry))) (stateOf current saved (record { sizes = now (sizes .entry); words = now (words .entry); mem = now (mem .entry) }))
+        (perform (config (geometryOf g) (now (v .entry))) (stateOf current saved (before sizes words mem))
         (meaning (now (s .entry)) o) next)
-        r (record { sizes = now (sizes .exit); words = now (words .exit); mem = now (mem .exit) }) (now (counts .exit)) at (now (reply .entry)) (now (reply .exit))) ⌝ }
+        r (after sizes words mem) (now (counts .exit)) at (now (reply .entry)) (now (reply .exit))) ⌝ }
 {
     match o {
         Operation::GetFh => handles::get_fh(current, saved, reply, at),
@@ -151,9 +151,9 @@ fn step(
     r: Progress,
     reply: &mut [u8],
 ) -> Progress
-    requires { ⌜ Runs (geometryOf g) (now v) (now s) (stateOf (r .current) (r .saved) (record { sizes = now sizes; words = now words; mem = now mem })) (now counts) (now reply) (r .out) × (r .count < 12) ⌝ }
-    ensures { λ r′. ⌜ Turned (perform (config (geometryOf g) (now (v .entry))) (stateOf (r .current) (r .saved) (record { sizes = now (sizes .entry); words = now (words .entry); mem = now (mem .entry) })) (meaning (now (s .entry)) o) (next .at))
-        r r′ (record { sizes = now (sizes .exit); words = now (words .exit); mem = now (mem .exit) }) (now (counts .exit)) (now (reply .entry)) (now (reply .exit)) ⌝ }
+    requires { ⌜ Runs (geometryOf g) (now v) (now s) (stateOf (r .current) (r .saved) (tables sizes words mem)) (now counts) (now reply) (r .out) × (r .count < 12) ⌝ }
+    ensures { λ r′. ⌜ Turned (perform (config (geometryOf g) (now (v .entry))) (stateOf (r .current) (r .saved) (before sizes words mem)) (meaning (now (s .entry)) o) (next .at))
+        r r′ (after sizes words mem) (now (counts .exit)) (now (reply .entry)) (now (reply .exit)) ⌝ }
 {
     let current = r.current;
     let saved = r.saved;
@@ -215,9 +215,9 @@ fn turn(
     r: Progress,
     reply: &mut [u8],
 ) -> Progress
-    requires { ⌜ Runs (geometryOf g) (now v) (now s) (stateOf (r .current) (r .saved) (record { sizes = now sizes; words = now words; mem = now mem })) (now counts) (now reply) (r .out) × (r .count < 12) ⌝ }
-    ensures { λ r′. ⌜ Turned (eventAt (geometryOf g) (now (v .entry)) (stateOf (r .current) (r .saved) (record { sizes = now (sizes .entry); words = now (words .entry); mem = now (mem .entry) })) (now (s .entry)) (r .read))
-        r r′ (record { sizes = now (sizes .exit); words = now (words .exit); mem = now (mem .exit) }) (now (counts .exit)) (now (reply .entry)) (now (reply .exit)) ⌝ }
+    requires { ⌜ Runs (geometryOf g) (now v) (now s) (stateOf (r .current) (r .saved) (tables sizes words mem)) (now counts) (now reply) (r .out) × (r .count < 12) ⌝ }
+    ensures { λ r′. ⌜ Turned (eventAt (geometryOf g) (now (v .entry)) (stateOf (r .current) (r .saved) (before sizes words mem)) (now (s .entry)) (r .read))
+        r r′ (after sizes words mem) (now (counts .exit)) (now (reply .entry)) (now (reply .exit)) ⌝ }
 {
     match item(s, Cursor { at: r.read }) {
         Item::Op(o, next) => step(g, sizes, words, mem, counts, v, s, o, next, r, reply),
@@ -239,9 +239,9 @@ pub fn run(
     out: usize,
     reply: &mut [u8],
 ) -> Progress
-    requires { ⌜ RunsAll (geometryOf g) (now v) (now s) (record { sizes = now sizes; words = now words; mem = now mem }) (now counts) ops (now reply) out ⌝ }
-    ensures { λ r. ⌜ RanAll (reached (config (geometryOf g) (now (v .entry))) (fresh (record { sizes = now (sizes .entry); words = now (words .entry); mem = now (mem .entry) })) (items (now (s .entry)) ops read))
-        (record { sizes = now (sizes .entry); words = now (words .entry); mem = now (mem .entry) }) read out r (record { sizes = now (sizes .exit); words = now (words .exit); mem = now (mem .exit) }) (now (reply .entry)) (now (reply .exit)) ⌝ }
+    requires { ⌜ RunsAll (geometryOf g) (now v) (now s) (tables sizes words mem) (now counts) ops (now reply) out ⌝ }
+    ensures { λ r. ⌜ RanAll (reached (config (geometryOf g) (now (v .entry))) (fresh (before sizes words mem)) (items (now (s .entry)) ops read))
+        (before sizes words mem) read out r (after sizes words mem) (now (reply .entry)) (now (reply .exit)) ⌝ }
 {
     let mut r = Progress {
         status: 0,

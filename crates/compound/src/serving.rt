@@ -7,14 +7,14 @@ ghost use Prim.Native.Nat.{_+_, _≤_};
 ghost use lib.ListN.{length};
 ghost use Rattle.xdr.specs.Bytes.{partOf, Written};
 ghost use Rattle.xdr.specs.Encode.{opaqueSize};
-ghost use Rattle.store.specs.Lent.{geometryOf};
+ghost use Rattle.store.specs.Lent.{geometryOf, after, before, tables};
 ghost use Rattle.rules.specs.Lists.{first};
 ghost use Rattle.rules.specs.Operation.{MINOR-VERS-MISMATCH, TOO-MANY-OPS};
 ghost use Rattle.rules.specs.Calls.{compound, replyHead, Gives, served, Contract};
 ghost use Rattle.rules.specs.Run.{config};
 ghost use Rattle.store.specs.Tables.{Shaped};
 ghost use Rattle.store.specs.Survey.{TableFits, TableReady};
-ghost use Rattle.compound.specs.Runner.{Serves, headerOf};
+ghost use Rattle.compound.specs.Runner.{Serves, headerOf, call, outcome};
 use crate::answer::Answer;
 use crate::decode::HeaderRead;
 use crate::decode::header;
@@ -91,16 +91,10 @@ fn serve_operations(
     c: Cursor,
     reply: &mut [u8],
 ) -> Served
-    requires { ⌜ Serves (geometryOf g) (now v) (now s) (record { sizes = now sizes; words = now words; mem = now mem }) (now counts) (now reply) × (length (partOf (now s) d) ≤ 1024) ⌝ }
-    ensures { λ r. ⌜ Gives (served (now (reply .entry)) (record { sizes = now (sizes .entry); words = now (words .entry); mem = now (mem .entry) }) (headerOf (now (s .entry)) d minor ops) (c .at)
-        (compound (config (geometryOf g) (now (v .entry))) (record { sizes = now (sizes .entry); words = now (words .entry); mem = now (mem .entry) }) (now (s .entry)) (headerOf (now (s .entry)) d minor ops) (c .at)))
-        (record {
-          number = r .number;
-          read = r .read;
-          written = r .written;
-          reply = now (reply .exit);
-          store = record { sizes = now (sizes .exit); words = now (words .exit); mem = now (mem .exit) };
-        }) ⌝ }
+    requires { ⌜ Serves (geometryOf g) (now v) (now s) (tables sizes words mem) (now counts) (now reply) × (length (partOf (now s) d) ≤ 1024) ⌝ }
+    ensures { λ r. ⌜ Gives (served (now (reply .entry)) (before sizes words mem) (headerOf (now (s .entry)) d minor ops) (c .at)
+        (compound (config (geometryOf g) (now (v .entry))) (before sizes words mem) (now (s .entry)) (headerOf (now (s .entry)) d minor ops) (c .at)))
+        (outcome r reply (after sizes words mem)) ⌝ }
 {
     let tag = xdr::part(s, d);
     let e = header_status(minor, ops);
@@ -133,16 +127,9 @@ fn serve_counted(
     s: &[u8],
     reply: &mut [u8],
 ) -> Served
-    requires { ⌜ TableReady (geometryOf g) (record { sizes = now sizes; words = now words; mem = now mem }) (now counts) × (length (now v) ≡ 8) ⌝ }
-    ensures { λ r. ⌜ Contract (record { config = config (geometryOf g) (now (v .entry)); request = now (s .entry); buffer = now (reply .entry) })
-        (record { sizes = now (sizes .entry); words = now (words .entry); mem = now (mem .entry) })
-        (record {
-          number = r .number;
-          read = r .read;
-          written = r .written;
-          reply = now (reply .exit);
-          store = record { sizes = now (sizes .exit); words = now (words .exit); mem = now (mem .exit) };
-        }) ⌝ }
+    requires { ⌜ TableReady (geometryOf g) (tables sizes words mem) (now counts) × (length (now v) ≡ 8) ⌝ }
+    ensures { λ r. ⌜ Contract (call (geometryOf g) v s reply) (before sizes words mem)
+        (outcome r reply (after sizes words mem)) ⌝ }
 {
     if store::survey_tables(g, sizes, words, mem, counts).number != 0 {
         return Served::refused(3);
@@ -170,16 +157,9 @@ fn serve_in(
     s: &[u8],
     reply: &mut [u8],
 ) -> Served
-    requires { ⌜ TableFits (geometryOf g) (record { sizes = now sizes; words = now words; mem = now mem }) (now counts) × (length (now v) ≡ 8) ⌝ }
-    ensures { λ r. ⌜ Contract (record { config = config (geometryOf g) (now (v .entry)); request = now (s .entry); buffer = now (reply .entry) })
-        (record { sizes = now (sizes .entry); words = now (words .entry); mem = now (mem .entry) })
-        (record {
-          number = r .number;
-          read = r .read;
-          written = r .written;
-          reply = now (reply .exit);
-          store = record { sizes = now (sizes .exit); words = now (words .exit); mem = now (mem .exit) };
-        }) ⌝ }
+    requires { ⌜ TableFits (geometryOf g) (tables sizes words mem) (now counts) × (length (now v) ≡ 8) ⌝ }
+    ensures { λ r. ⌜ Contract (call (geometryOf g) v s reply) (before sizes words mem)
+        (outcome r reply (after sizes words mem)) ⌝ }
 {
     let n = g.blocks;
     serve_counted(g, sizes, words, mem, &mut counts[..n], v, s, reply)
@@ -195,16 +175,9 @@ fn serve_shaped(
     s: &[u8],
     reply: &mut [u8],
 ) -> Served
-    requires { ⌜ Shaped (geometryOf g) (record { sizes = now sizes; words = now words; mem = now mem }) × (length (now v) ≡ 8) ⌝ }
-    ensures { λ r. ⌜ Contract (record { config = config (geometryOf g) (now (v .entry)); request = now (s .entry); buffer = now (reply .entry) })
-        (record { sizes = now (sizes .entry); words = now (words .entry); mem = now (mem .entry) })
-        (record {
-          number = r .number;
-          read = r .read;
-          written = r .written;
-          reply = now (reply .exit);
-          store = record { sizes = now (sizes .exit); words = now (words .exit); mem = now (mem .exit) };
-        }) ⌝ }
+    requires { ⌜ Shaped (geometryOf g) (tables sizes words mem) × (length (now v) ≡ 8) ⌝ }
+    ensures { λ r. ⌜ Contract (call (geometryOf g) v s reply) (before sizes words mem)
+        (outcome r reply (after sizes words mem)) ⌝ }
 {
     let mut counts = [0u32; 65536];
     serve_in(g, sizes, words, mem, &mut counts, v, s, reply)
@@ -220,15 +193,8 @@ pub fn serve(
     s: &[u8],
     reply: &mut [u8],
 ) -> Served
-    ensures { λ r. ⌜ Contract (record { config = config (geometryOf g) (now (v .entry)); request = now (s .entry); buffer = now (reply .entry) })
-        (record { sizes = now (sizes .entry); words = now (words .entry); mem = now (mem .entry) })
-        (record {
-          number = r .number;
-          read = r .read;
-          written = r .written;
-          reply = now (reply .exit);
-          store = record { sizes = now (sizes .exit); words = now (words .exit); mem = now (mem .exit) };
-        }) ⌝ }
+    ensures { λ r. ⌜ Contract (call (geometryOf g) v s reply) (before sizes words mem)
+        (outcome r reply (after sizes words mem)) ⌝ }
 {
     if !g.good() {
         return Served::refused(1);

@@ -2,7 +2,7 @@
 ghost use mathlib.Core.Path.{_≡_};
 ghost use Prim.Native.Nat.{_≤_};
 ghost use lib.ListN.{length, replicate};
-ghost use Rattle.store.specs.Lent.{geometryOf};
+ghost use Rattle.store.specs.Lent.{geometryOf, after, before};
 ghost use Rattle.rules.specs.Calls.{Contract};
 ghost use Rattle.rules.specs.Line.{frameGeometry, frameCall, answerLine, answerRequest};
 ghost use Rattle.frame.specs.LineCall.{lineInto, LinePromise};
@@ -38,13 +38,13 @@ fn serve_frame(
 ) -> Served
     requires { ⌜ now reply ≡ replicate 32768 0 ⌝ }
     ensures { λ r. ⌜ Contract (frameCall (now (s .entry)))
-        (record { sizes = now (sizes .entry); words = now (words .entry); mem = now (mem .entry) })
+        (before sizes words mem)
         (record {
           number = r .number;
           read = r .read;
           written = r .written;
           reply = now (reply .exit);
-          store = record { sizes = now (sizes .exit); words = now (words .exit); mem = now (mem .exit) };
+          store = after sizes words mem;
         }) ⌝ }
 {
     let verifier = [0u8; 8];
@@ -62,9 +62,9 @@ fn serve_into(
 ) -> usize
     requires { ⌜ (now reply ≡ replicate 32768 0) × (65536 ≤ length (now out)) ⌝ }
     ensures { λ r. ⌜ LinePromise
-        (answerRequest (record { sizes = now (sizes .entry); words = now (words .entry); mem = now (mem .entry) }) (now (s .entry)))
+        (answerRequest (before sizes words mem) (now (s .entry)))
         (now (out .entry)) r (now (out .exit))
-        (record { sizes = now (sizes .exit); words = now (words .exit); mem = now (mem .exit) }) ⌝ }
+        (after sizes words mem) ⌝ }
 {
     let r = serve_frame(sizes, words, mem, s, reply);
     if r.number != 0 {
@@ -84,9 +84,9 @@ fn serve_request(
 ) -> usize
     requires { ⌜ 65536 ≤ length (now out) ⌝ }
     ensures { λ r. ⌜ LinePromise
-        (answerRequest (record { sizes = now (sizes .entry); words = now (words .entry); mem = now (mem .entry) }) (now (s .entry)))
+        (answerRequest (before sizes words mem) (now (s .entry)))
         (now (out .entry)) r (now (out .exit))
-        (record { sizes = now (sizes .exit); words = now (words .exit); mem = now (mem .exit) }) ⌝ }
+        (after sizes words mem) ⌝ }
 {
     let mut reply = [0u8; 32768];
     serve_into(sizes, words, mem, s, &mut reply, out)
@@ -103,9 +103,9 @@ fn serve_digits(
 ) -> usize
     requires { ⌜ (4096 ≤ length (now request)) × (65536 ≤ length (now out)) ⌝ }
     ensures { λ r. ⌜ LinePromise
-        (answerLine (record { sizes = now (sizes .entry); words = now (words .entry); mem = now (mem .entry) }) (now (line .entry)))
+        (answerLine (before sizes words mem) (now (line .entry)))
         (now (out .entry)) r (now (out .exit))
-        (record { sizes = now (sizes .exit); words = now (words .exit); mem = now (mem .exit) }) ⌝ }
+        (after sizes words mem) ⌝ }
 {
     let Request::Bytes(n) = request_bytes(line, request) else {
         return put_refusal(7, out);
@@ -123,9 +123,9 @@ fn serve_fitting(
 ) -> usize
     requires { ⌜ 65536 ≤ length (now out) ⌝ }
     ensures { λ r. ⌜ LinePromise
-        (answerLine (record { sizes = now (sizes .entry); words = now (words .entry); mem = now (mem .entry) }) (now (line .entry)))
+        (answerLine (before sizes words mem) (now (line .entry)))
         (now (out .entry)) r (now (out .exit))
-        (record { sizes = now (sizes .exit); words = now (words .exit); mem = now (mem .exit) }) ⌝ }
+        (after sizes words mem) ⌝ }
 {
     let mut request = [0u8; 4096];
     serve_digits(sizes, words, mem, line, &mut request, out)
@@ -141,9 +141,9 @@ pub fn serve_line(
     out: &mut [u8],
 ) -> usize
     ensures { λ r. ⌜ LinePromise
-        (lineInto (now (out .entry)) (record { sizes = now (sizes .entry); words = now (words .entry); mem = now (mem .entry) }) (now (line .entry)))
+        (lineInto (now (out .entry)) (before sizes words mem) (now (line .entry)))
         (now (out .entry)) r (now (out .exit))
-        (record { sizes = now (sizes .exit); words = now (words .exit); mem = now (mem .exit) }) ⌝ }
+        (after sizes words mem) ⌝ }
 {
     if out.len() < MIN_OUT {
         return 0;

@@ -1,6 +1,6 @@
 // The calls for a front end: server.h has their C declarations. Each hands its arguments to the call below it.
 ghost use mathlib.Core.Path.{_≡_};
-ghost use Rattle.store.specs.Lent.{geometryOf};
+ghost use Rattle.store.specs.Lent.{geometryOf, after, before};
 ghost use Rattle.rules.specs.Run.{config};
 ghost use Rattle.rules.specs.Calls.{MakePromise, storeRefusal};
 ghost use Rattle.server.specs.Exports.{CountsPromise, ServePromise};
@@ -29,8 +29,8 @@ pub extern "C" fn store_make_empty(
     mem: &mut [u8],
 ) -> u32
     ensures { λ r. ⌜ MakePromise (record { F = files; S = slots; N = blocks; B = «block_size» })
-        (record { sizes = now (sizes .entry); words = now (words .entry); mem = now (mem .entry) }) r
-        (record { sizes = now (sizes .exit); words = now (words .exit); mem = now (mem .exit) }) ⌝ }
+        (before sizes words mem) r
+        (after sizes words mem) ⌝ }
 {
     store::make_empty(
         geometry(files, slots, blocks, block_size),
@@ -52,7 +52,7 @@ pub extern "C" fn store_soundness(
     mem: &[u8],
 ) -> u32
     ensures { λ r. ⌜ r ≡ storeRefusal (record { F = files; S = slots; N = blocks; B = «block_size» })
-        (record { sizes = now (sizes .entry); words = now (words .entry); mem = now (mem .entry) }) ⌝ }
+        (before sizes words mem) ⌝ }
 {
     store::soundness(
         geometry(files, slots, blocks, block_size),
@@ -75,7 +75,7 @@ pub extern "C" fn store_count_blocks(
     counts: &mut [u64; 2],
 ) -> u32
     ensures { λ r. ⌜ CountsPromise (record { F = files; S = slots; N = blocks; B = «block_size» })
-        (record { sizes = now (sizes .entry); words = now (words .entry); mem = now (mem .entry) }) r (now (counts .exit)) ⌝ }
+        (before sizes words mem) r (now (counts .exit)) ⌝ }
 {
     let c = store::count_blocks(
         geometry(files, slots, blocks, block_size),
@@ -108,9 +108,9 @@ pub extern "C" fn compound_serve(
           request = now (request .entry);
           buffer = now (reply .entry);
         })
-        (record { sizes = now (sizes .entry); words = now (words .entry); mem = now (mem .entry) })
+        (before sizes words mem)
         r (now (counts .exit)) (now (reply .exit))
-        (record { sizes = now (sizes .exit); words = now (words .exit); mem = now (mem .exit) }) ⌝ }
+        (after sizes words mem) ⌝ }
 {
     let g = geometry(files, slots, blocks, block_size);
     let s = compound::serve(g, sizes, words, mem, verifier, request, reply);

@@ -1,7 +1,7 @@
 // ALLOCATE: the plan of its slots, and where the plan fits the pool the size. No byte of memory changes.
 ghost use Prim.Native.Nat.{_+_, _≤_};
 ghost use lib.ListN.{length};
-ghost use Rattle.store.specs.Lent.{geometryOf};
+ghost use Rattle.store.specs.Lent.{geometryOf, before, tables};
 ghost use Rattle.rules.specs.Edit.{edited, allocating};
 ghost use Rattle.store.specs.EditPromises.{EditPromise, RegionKnown};
 use crate::edit_plans::plan_allocate;
@@ -21,11 +21,11 @@ fn allocate_saving(
     n: usize,
     saved: &mut [u32],
 ) -> bool
-    requires { ⌜ RegionKnown (geometryOf g) (record { sizes = now sizes; words = now words; mem = now mem }) (now counts)
+    requires { ⌜ RegionKnown (geometryOf g) (tables sizes words mem) (now counts)
         f off (off + n) × (geometryOf g .S ≤ length (now saved)) ⌝ }
-    ensures { λ r. ⌜ EditPromise (geometryOf g) (record { sizes = now (sizes .entry); words = now (words .entry); mem = now (mem .entry) })
-        (edited (geometryOf g) (record { sizes = now (sizes .entry); words = now (words .entry); mem = now (mem .entry) }) (allocating f off (off + n)))
-        r (record { sizes = now (sizes .exit); words = now (words .exit); mem = now (mem .entry) }) (now (counts .exit)) ⌝ }
+    ensures { λ r. ⌜ EditPromise (geometryOf g) (before sizes words mem)
+        (edited (geometryOf g) (before sizes words mem) (allocating f off (off + n)))
+        r (tables (sizes .exit) (words .exit) (mem .entry)) (now (counts .exit)) ⌝ }
 {
     let end = off + n;
     let count = slot_count(g, off, end);
@@ -49,11 +49,11 @@ pub fn allocate_file(
     off: usize,
     n: usize,
 ) -> bool
-    requires { ⌜ RegionKnown (geometryOf g) (record { sizes = now sizes; words = now words; mem = now mem }) (now counts)
+    requires { ⌜ RegionKnown (geometryOf g) (tables sizes words mem) (now counts)
         f off (off + n) ⌝ }
-    ensures { λ r. ⌜ EditPromise (geometryOf g) (record { sizes = now (sizes .entry); words = now (words .entry); mem = now (mem .entry) })
-        (edited (geometryOf g) (record { sizes = now (sizes .entry); words = now (words .entry); mem = now (mem .entry) }) (allocating f off (off + n)))
-        r (record { sizes = now (sizes .exit); words = now (words .exit); mem = now (mem .entry) }) (now (counts .exit)) ⌝ }
+    ensures { λ r. ⌜ EditPromise (geometryOf g) (before sizes words mem)
+        (edited (geometryOf g) (before sizes words mem) (allocating f off (off + n)))
+        r (tables (sizes .exit) (words .exit) (mem .entry)) (now (counts .exit)) ⌝ }
 {
     let mut saved = [0u32; 1024];
     allocate_saving(g, sizes, words, counts, mem, f, off, n, &mut saved)

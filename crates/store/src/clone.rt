@@ -1,7 +1,7 @@
 // CLONE: the plan of the target's slots, and where the plan fits the pool the size. No byte of memory changes.
 ghost use Prim.Native.Nat.{_<_, _≤_, _+_};
 ghost use lib.ListN.{length};
-ghost use Rattle.store.specs.Lent.{geometryOf};
+ghost use Rattle.store.specs.Lent.{geometryOf, before, tables};
 ghost use Rattle.rules.specs.Edit.{edited, cloning};
 ghost use Rattle.store.specs.EditPromises.{EditPromise, CloneKnown};
 use crate::edit_plans::plan_clone;
@@ -22,11 +22,11 @@ fn clone_saving(
     n: usize,
     saved: &mut [u32],
 ) -> bool
-    requires { ⌜ CloneKnown (geometryOf g) (record { sizes = now sizes; words = now words; mem = now mem }) (now counts)
+    requires { ⌜ CloneKnown (geometryOf g) (tables sizes words mem) (now counts)
         s f soff off n × ((0 < n) × (geometryOf g .S ≤ length (now saved))) ⌝ }
-    ensures { λ r. ⌜ EditPromise (geometryOf g) (record { sizes = now (sizes .entry); words = now (words .entry); mem = now (mem .entry) })
-        (edited (geometryOf g) (record { sizes = now (sizes .entry); words = now (words .entry); mem = now (mem .entry) }) (cloning f off (off + n) s soff))
-        r (record { sizes = now (sizes .exit); words = now (words .exit); mem = now (mem .entry) }) (now (counts .exit)) ⌝ }
+    ensures { λ r. ⌜ EditPromise (geometryOf g) (before sizes words mem)
+        (edited (geometryOf g) (before sizes words mem) (cloning f off (off + n) s soff))
+        r (tables (sizes .exit) (words .exit) (mem .entry)) (now (counts .exit)) ⌝ }
 {
     let from = s * g.slots + soff / g.block_size;
     let to = f * g.slots + off / g.block_size;
@@ -51,11 +51,11 @@ fn clone_some(
     off: usize,
     n: usize,
 ) -> bool
-    requires { ⌜ CloneKnown (geometryOf g) (record { sizes = now sizes; words = now words; mem = now mem }) (now counts)
+    requires { ⌜ CloneKnown (geometryOf g) (tables sizes words mem) (now counts)
         s f soff off n × (0 < n) ⌝ }
-    ensures { λ r. ⌜ EditPromise (geometryOf g) (record { sizes = now (sizes .entry); words = now (words .entry); mem = now (mem .entry) })
-        (edited (geometryOf g) (record { sizes = now (sizes .entry); words = now (words .entry); mem = now (mem .entry) }) (cloning f off (off + n) s soff))
-        r (record { sizes = now (sizes .exit); words = now (words .exit); mem = now (mem .entry) }) (now (counts .exit)) ⌝ }
+    ensures { λ r. ⌜ EditPromise (geometryOf g) (before sizes words mem)
+        (edited (geometryOf g) (before sizes words mem) (cloning f off (off + n) s soff))
+        r (tables (sizes .exit) (words .exit) (mem .entry)) (now (counts .exit)) ⌝ }
 {
     let mut saved = [0u32; 1024];
     clone_saving(g, sizes, words, counts, mem, s, f, soff, off, n, &mut saved)
@@ -75,11 +75,11 @@ pub fn clone_file(
     off: usize,
     n: usize,
 ) -> bool
-    requires { ⌜ CloneKnown (geometryOf g) (record { sizes = now sizes; words = now words; mem = now mem }) (now counts)
+    requires { ⌜ CloneKnown (geometryOf g) (tables sizes words mem) (now counts)
         s f soff off n ⌝ }
-    ensures { λ r. ⌜ EditPromise (geometryOf g) (record { sizes = now (sizes .entry); words = now (words .entry); mem = now (mem .entry) })
-        (edited (geometryOf g) (record { sizes = now (sizes .entry); words = now (words .entry); mem = now (mem .entry) }) (cloning f off (off + n) s soff))
-        r (record { sizes = now (sizes .exit); words = now (words .exit); mem = now (mem .entry) }) (now (counts .exit)) ⌝ }
+    ensures { λ r. ⌜ EditPromise (geometryOf g) (before sizes words mem)
+        (edited (geometryOf g) (before sizes words mem) (cloning f off (off + n) s soff))
+        r (tables (sizes .exit) (words .exit) (mem .entry)) (now (counts .exit)) ⌝ }
 {
     if n == 0 {
         return true;

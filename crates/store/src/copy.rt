@@ -1,7 +1,7 @@
 // COPY: as WRITE, with the bytes of another file.
 ghost use Prim.Native.Nat.{_+_, _-_, _<_, _≤_};
 ghost use lib.ListN.{length};
-ghost use Rattle.store.specs.Lent.{geometryOf};
+ghost use Rattle.store.specs.Lent.{geometryOf, after, before, tables};
 ghost use Rattle.rules.specs.Store.{byteAt};
 ghost use Rattle.rules.specs.Edit.{edited, copying};
 ghost use Rattle.store.specs.SlotBytes.{AllCopies};
@@ -30,7 +30,7 @@ fn finish_copy(
 )
     requires { ⌜ AllCopies (geometryOf g) (now words) (now mem) s soff (now old) (now new) first off end 4096 × (f < length (now sizes)) ⌝ }
     ensures { λ _. ⌜ Finished (geometryOf g)
-        (λ p. byteAt (geometryOf g) (record { sizes = now (sizes .entry); words = now (words .entry); mem = now (mem .entry) }) s (soff + (p - off)))
+        (λ p. byteAt (geometryOf g) (before sizes words mem) s (soff + (p - off)))
         first (now (old .entry)) (now (new .entry)) f off end (now (sizes .entry)) (now (mem .entry)) (now (sizes .exit)) (now (mem .exit)) ⌝ }
 {
     copy_range(g, words, mem, s, soff, old, new, first, off, end);
@@ -52,11 +52,11 @@ fn copy_planned(
     n: usize,
     old: &mut [u32],
 ) -> bool
-    requires { ⌜ SlotsKnown (geometryOf g) (record { sizes = now sizes; words = now words; mem = now mem }) (now counts) f off (off + n) first (length (now old))
-        × SourceKnown (geometryOf g) (record { sizes = now sizes; words = now words; mem = now mem }) s f soff n ⌝ }
-    ensures { λ r. ⌜ EditPromise (geometryOf g) (record { sizes = now (sizes .entry); words = now (words .entry); mem = now (mem .entry) })
-        (edited (geometryOf g) (record { sizes = now (sizes .entry); words = now (words .entry); mem = now (mem .entry) }) (copying f off (off + n) s soff))
-        r (record { sizes = now (sizes .exit); words = now (words .exit); mem = now (mem .exit) }) (now (counts .exit)) ⌝ }
+    requires { ⌜ SlotsKnown (geometryOf g) (tables sizes words mem) (now counts) f off (off + n) first (length (now old))
+        × SourceKnown (geometryOf g) (tables sizes words mem) s f soff n ⌝ }
+    ensures { λ r. ⌜ EditPromise (geometryOf g) (before sizes words mem)
+        (edited (geometryOf g) (before sizes words mem) (copying f off (off + n) s soff))
+        r (after sizes words mem) (now (counts .exit)) ⌝ }
 {
     let i = f * g.slots + first;
     let to = i + old.len();
@@ -84,11 +84,11 @@ fn copy_saving(
     n: usize,
     saved: &mut [u32],
 ) -> bool
-    requires { ⌜ RegionKnown (geometryOf g) (record { sizes = now sizes; words = now words; mem = now mem }) (now counts) f off (off + n)
-        × (SourceKnown (geometryOf g) (record { sizes = now sizes; words = now words; mem = now mem }) s f soff n × (geometryOf g .S ≤ length (now saved))) ⌝ }
-    ensures { λ r. ⌜ EditPromise (geometryOf g) (record { sizes = now (sizes .entry); words = now (words .entry); mem = now (mem .entry) })
-        (edited (geometryOf g) (record { sizes = now (sizes .entry); words = now (words .entry); mem = now (mem .entry) }) (copying f off (off + n) s soff))
-        r (record { sizes = now (sizes .exit); words = now (words .exit); mem = now (mem .exit) }) (now (counts .exit)) ⌝ }
+    requires { ⌜ RegionKnown (geometryOf g) (tables sizes words mem) (now counts) f off (off + n)
+        × (SourceKnown (geometryOf g) (tables sizes words mem) s f soff n × (geometryOf g .S ≤ length (now saved))) ⌝ }
+    ensures { λ r. ⌜ EditPromise (geometryOf g) (before sizes words mem)
+        (edited (geometryOf g) (before sizes words mem) (copying f off (off + n) s soff))
+        r (after sizes words mem) (now (counts .exit)) ⌝ }
 {
     let count = slot_count(g, off, off + n);
     copy_planned(
@@ -120,11 +120,11 @@ fn copy_some(
     off: usize,
     n: usize,
 ) -> bool
-    requires { ⌜ RegionKnown (geometryOf g) (record { sizes = now sizes; words = now words; mem = now mem }) (now counts) f off (off + n)
-        × SourceKnown (geometryOf g) (record { sizes = now sizes; words = now words; mem = now mem }) s f soff n ⌝ }
-    ensures { λ r. ⌜ EditPromise (geometryOf g) (record { sizes = now (sizes .entry); words = now (words .entry); mem = now (mem .entry) })
-        (edited (geometryOf g) (record { sizes = now (sizes .entry); words = now (words .entry); mem = now (mem .entry) }) (copying f off (off + n) s soff))
-        r (record { sizes = now (sizes .exit); words = now (words .exit); mem = now (mem .exit) }) (now (counts .exit)) ⌝ }
+    requires { ⌜ RegionKnown (geometryOf g) (tables sizes words mem) (now counts) f off (off + n)
+        × SourceKnown (geometryOf g) (tables sizes words mem) s f soff n ⌝ }
+    ensures { λ r. ⌜ EditPromise (geometryOf g) (before sizes words mem)
+        (edited (geometryOf g) (before sizes words mem) (copying f off (off + n) s soff))
+        r (after sizes words mem) (now (counts .exit)) ⌝ }
 {
     let mut saved = [0u32; 1024];
     copy_saving(g, sizes, words, mem, counts, s, f, soff, off, n, &mut saved)
@@ -144,10 +144,10 @@ pub fn copy_file(
     off: usize,
     n: usize,
 ) -> bool
-    requires { ⌜ CopyKnown (geometryOf g) (record { sizes = now sizes; words = now words; mem = now mem }) (now counts) s f soff off n ⌝ }
-    ensures { λ r. ⌜ EditPromise (geometryOf g) (record { sizes = now (sizes .entry); words = now (words .entry); mem = now (mem .entry) })
-        (edited (geometryOf g) (record { sizes = now (sizes .entry); words = now (words .entry); mem = now (mem .entry) }) (copying f off (off + n) s soff))
-        r (record { sizes = now (sizes .exit); words = now (words .exit); mem = now (mem .exit) }) (now (counts .exit)) ⌝ }
+    requires { ⌜ CopyKnown (geometryOf g) (tables sizes words mem) (now counts) s f soff off n ⌝ }
+    ensures { λ r. ⌜ EditPromise (geometryOf g) (before sizes words mem)
+        (edited (geometryOf g) (before sizes words mem) (copying f off (off + n) s soff))
+        r (after sizes words mem) (now (counts .exit)) ⌝ }
 {
     if n == 0 {
         return true;

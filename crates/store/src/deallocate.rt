@@ -1,7 +1,7 @@
 // DEALLOCATE: the plan of its slots, and where the plan fits the pool the bytes. The size stays.
 ghost use Prim.Native.Nat.{_≤_};
 ghost use lib.ListN.{length};
-ghost use Rattle.store.specs.Lent.{geometryOf};
+ghost use Rattle.store.specs.Lent.{geometryOf, before, tables};
 ghost use Rattle.rules.specs.Edit.{edited, deallocating};
 ghost use Rattle.store.specs.EditPromises.{EditPromise, CutKnown, CutRegion, CutSlots};
 use crate::bytes::zero_edges;
@@ -22,11 +22,11 @@ fn cut_range(
     end: usize,
     old: &mut [u32],
 ) -> bool
-    requires { ⌜ CutSlots (geometryOf g) (record { sizes = now sizes; words = now words; mem = now mem }) (now counts)
+    requires { ⌜ CutSlots (geometryOf g) (tables sizes words mem) (now counts)
         f off end first (length (now old)) ⌝ }
-    ensures { λ r. ⌜ EditPromise (geometryOf g) (record { sizes = now (sizes .entry); words = now (words .entry); mem = now (mem .entry) })
-        (edited (geometryOf g) (record { sizes = now (sizes .entry); words = now (words .entry); mem = now (mem .entry) }) (deallocating f off end))
-        r (record { sizes = now (sizes .entry); words = now (words .exit); mem = now (mem .exit) }) (now (counts .exit)) ⌝ }
+    ensures { λ r. ⌜ EditPromise (geometryOf g) (before sizes words mem)
+        (edited (geometryOf g) (before sizes words mem) (deallocating f off end))
+        r (tables (sizes .entry) (words .exit) (mem .exit)) (now (counts .exit)) ⌝ }
 {
     let at = f * g.slots;
     let i = at + first;
@@ -52,11 +52,11 @@ fn cut_saving(
     end: usize,
     saved: &mut [u32],
 ) -> bool
-    requires { ⌜ CutRegion (geometryOf g) (record { sizes = now sizes; words = now words; mem = now mem }) (now counts)
+    requires { ⌜ CutRegion (geometryOf g) (tables sizes words mem) (now counts)
         f off end × (geometryOf g .S ≤ length (now saved)) ⌝ }
-    ensures { λ r. ⌜ EditPromise (geometryOf g) (record { sizes = now (sizes .entry); words = now (words .entry); mem = now (mem .entry) })
-        (edited (geometryOf g) (record { sizes = now (sizes .entry); words = now (words .entry); mem = now (mem .entry) }) (deallocating f off end))
-        r (record { sizes = now (sizes .entry); words = now (words .exit); mem = now (mem .exit) }) (now (counts .exit)) ⌝ }
+    ensures { λ r. ⌜ EditPromise (geometryOf g) (before sizes words mem)
+        (edited (geometryOf g) (before sizes words mem) (deallocating f off end))
+        r (tables (sizes .entry) (words .exit) (mem .exit)) (now (counts .exit)) ⌝ }
 {
     let n = slot_count(g, off, end);
     cut_range(
@@ -84,11 +84,11 @@ fn cut_some(
     off: usize,
     end: usize,
 ) -> bool
-    requires { ⌜ CutRegion (geometryOf g) (record { sizes = now sizes; words = now words; mem = now mem }) (now counts)
+    requires { ⌜ CutRegion (geometryOf g) (tables sizes words mem) (now counts)
         f off end ⌝ }
-    ensures { λ r. ⌜ EditPromise (geometryOf g) (record { sizes = now (sizes .entry); words = now (words .entry); mem = now (mem .entry) })
-        (edited (geometryOf g) (record { sizes = now (sizes .entry); words = now (words .entry); mem = now (mem .entry) }) (deallocating f off end))
-        r (record { sizes = now (sizes .entry); words = now (words .exit); mem = now (mem .exit) }) (now (counts .exit)) ⌝ }
+    ensures { λ r. ⌜ EditPromise (geometryOf g) (before sizes words mem)
+        (edited (geometryOf g) (before sizes words mem) (deallocating f off end))
+        r (tables (sizes .entry) (words .exit) (mem .exit)) (now (counts .exit)) ⌝ }
 {
     let mut saved = [0u32; 1024];
     cut_saving(g, sizes, words, mem, counts, f, off, end, &mut saved)
@@ -106,10 +106,10 @@ pub fn deallocate_file(
     off: usize,
     end: usize,
 ) -> bool
-    requires { ⌜ CutKnown (geometryOf g) (record { sizes = now sizes; words = now words; mem = now mem }) (now counts) f end ⌝ }
-    ensures { λ r. ⌜ EditPromise (geometryOf g) (record { sizes = now (sizes .entry); words = now (words .entry); mem = now (mem .entry) })
-        (edited (geometryOf g) (record { sizes = now (sizes .entry); words = now (words .entry); mem = now (mem .entry) }) (deallocating f off end))
-        r (record { sizes = now (sizes .entry); words = now (words .exit); mem = now (mem .exit) }) (now (counts .exit)) ⌝ }
+    requires { ⌜ CutKnown (geometryOf g) (tables sizes words mem) (now counts) f end ⌝ }
+    ensures { λ r. ⌜ EditPromise (geometryOf g) (before sizes words mem)
+        (edited (geometryOf g) (before sizes words mem) (deallocating f off end))
+        r (tables (sizes .entry) (words .exit) (mem .exit)) (now (counts .exit)) ⌝ }
 {
     if end <= off {
         return true;

@@ -6,7 +6,7 @@ ghost use lib.ListN.{length, getD};
 ghost use lib.Dec.{eqb, ltb};
 ghost use Rattle.rules.specs.Lists.{allTo};
 ghost use Rattle.rules.specs.Store.{wordOf, slotByte, soundFile};
-ghost use Rattle.store.specs.Lent.{geometryOf};
+ghost use Rattle.store.specs.Lent.{geometryOf, before, tables};
 ghost use Rattle.store.specs.Tables.{Pooled, FileKnown};
 use crate::geometry::Geometry;
 
@@ -66,8 +66,8 @@ fn tail_zero(g: Geometry, mem: &[u8], w: u32, from: usize) -> bool
 
 // Whether file f is sound. Of the block memory only the bytes past the size, in its last slot's block, are read.
 fn file_sound(g: Geometry, sizes: &[u64], words: &[u32], mem: &[u8], f: usize) -> bool
-    requires { ⌜ FileKnown (geometryOf g) (record { sizes = now sizes; words = now words; mem = now mem }) f ⌝ }
-    ensures { λ r. ⌜ r ≡ soundFile (geometryOf g) (record { sizes = now (sizes .entry); words = now (words .entry); mem = now (mem .entry) }) f ⌝ }
+    requires { ⌜ FileKnown (geometryOf g) (tables sizes words mem) f ⌝ }
+    ensures { λ r. ⌜ r ≡ soundFile (geometryOf g) (before sizes words mem) f ⌝ }
 {
     let bytes = sizes[f];
     if ((g.slots * g.block_size) as u64) < bytes {
@@ -88,8 +88,8 @@ fn file_sound(g: Geometry, sizes: &[u64], words: &[u32], mem: &[u8], f: usize) -
 
 // Whether every file is sound.
 pub fn files_sound(g: Geometry, sizes: &[u64], words: &[u32], mem: &[u8]) -> bool
-    requires { ⌜ Pooled (geometryOf g) (record { sizes = now sizes; words = now words; mem = now mem }) ⌝ }
-    ensures { λ r. ⌜ r ≡ allTo (g .files) (soundFile (geometryOf g) (record { sizes = now (sizes .entry); words = now (words .entry); mem = now (mem .entry) })) ⌝ }
+    requires { ⌜ Pooled (geometryOf g) (tables sizes words mem) ⌝ }
+    ensures { λ r. ⌜ r ≡ allTo (g .files) (soundFile (geometryOf g) (before sizes words mem)) ⌝ }
 {
     let mut f = 0;
     while f < g.files {

@@ -2,7 +2,7 @@
 ghost use mathlib.Core.Path.{_≡_};
 ghost use mathlib.Core.Bool.{true};
 ghost use Rattle.rules.specs.Store.{goodGeometry, goodBlockSize, goodLengths};
-ghost use Rattle.store.specs.Lent.{geometryOf};
+ghost use Rattle.store.specs.Lent.{geometryOf, before};
 
 // Files, slots per file, blocks in the pool, bytes of a block.
 pub struct Geometry {
@@ -63,7 +63,7 @@ fn block_size_good(b: usize) -> bool
 // Whether the tables have the lengths of a geometry inside the limits.
 pub fn good_lengths(g: Geometry, sizes: &[u64], words: &[u32], mem: &[u8]) -> bool
     requires { ⌜ goodGeometry (geometryOf g) ≡ true ⌝ }
-    ensures { λ r. ⌜ r ≡ goodLengths (geometryOf g) (record { sizes = now (sizes .entry); words = now (words .entry); mem = now (mem .entry) }) ⌝ }
+    ensures { λ r. ⌜ r ≡ goodLengths (geometryOf g) (before sizes words mem) ⌝ }
 {
     if sizes.len() != g.files {
         return false;

@@ -1,7 +1,7 @@
 // Making an empty store.
 ghost use mathlib.Core.Path.{_≡_};
 ghost use lib.ListN.{length, replicate};
-ghost use Rattle.store.specs.Lent.{geometryOf};
+ghost use Rattle.store.specs.Lent.{geometryOf, after, before};
 ghost use Rattle.rules.specs.Calls.{MakePromise};
 use crate::geometry::Geometry;
 use crate::geometry::good_lengths;
@@ -29,8 +29,8 @@ fn zero_slots(dst: &mut [u32])
 // Zeroes every table, or answers a refusal and leaves them as they are.
 pub fn make_empty(g: Geometry, sizes: &mut [u64], words: &mut [u32], mem: &mut [u8]) -> u32
     ensures { λ r. ⌜ MakePromise (geometryOf g)
-        (record { sizes = now (sizes .entry); words = now (words .entry); mem = now (mem .entry) }) r
-        (record { sizes = now (sizes .exit); words = now (words .exit); mem = now (mem .exit) }) ⌝ }
+        (before sizes words mem) r
+        (after sizes words mem) ⌝ }
 {
     if !g.good() {
         return 1;

@@ -1,6 +1,6 @@
 // Whether a store is sound, and its used and owed blocks, from one table of holders.
 ghost use mathlib.Core.Path.{_≡_};
-ghost use Rattle.store.specs.Lent.{geometryOf};
+ghost use Rattle.store.specs.Lent.{geometryOf, before, tables};
 ghost use Rattle.store.specs.Tables.{Shaped};
 ghost use Rattle.rules.specs.Calls.{storeRefusal, CountPromise};
 ghost use Rattle.store.specs.Survey.{TableReady, TableFits, Surveyed};
@@ -28,8 +28,8 @@ pub fn survey_tables(
     mem: &[u8],
     counts: &mut [u32],
 ) -> Counts
-    requires { ⌜ TableReady (geometryOf g) (record { sizes = now sizes; words = now words; mem = now mem }) (now counts) ⌝ }
-    ensures { λ r. ⌜ Surveyed (geometryOf g) (record { sizes = now (sizes .entry); words = now (words .entry); mem = now (mem .entry) })
+    requires { ⌜ TableReady (geometryOf g) (tables sizes words mem) (now counts) ⌝ }
+    ensures { λ r. ⌜ Surveyed (geometryOf g) (before sizes words mem)
         (r .number) (r .used) (r .owed) (now (counts .exit)) ⌝ }
 {
     if !words_formed(words, g.blocks) {
@@ -65,8 +65,8 @@ pub fn survey_tables(
 
 // The same in a table of any length that has a number for each block.
 fn survey_in(g: Geometry, sizes: &[u64], words: &[u32], mem: &[u8], counts: &mut [u32]) -> Counts
-    requires { ⌜ TableFits (geometryOf g) (record { sizes = now sizes; words = now words; mem = now mem }) (now counts) ⌝ }
-    ensures { λ r. ⌜ CountPromise (geometryOf g) (record { sizes = now (sizes .entry); words = now (words .entry); mem = now (mem .entry) })
+    requires { ⌜ TableFits (geometryOf g) (tables sizes words mem) (now counts) ⌝ }
+    ensures { λ r. ⌜ CountPromise (geometryOf g) (before sizes words mem)
         (r .number) (r .used) (r .owed) ⌝ }
 {
     let n = g.blocks;
@@ -74,8 +74,8 @@ fn survey_in(g: Geometry, sizes: &[u64], words: &[u32], mem: &[u8], counts: &mut
 }
 
 fn survey_shaped(g: Geometry, sizes: &[u64], words: &[u32], mem: &[u8]) -> Counts
-    requires { ⌜ Shaped (geometryOf g) (record { sizes = now sizes; words = now words; mem = now mem }) ⌝ }
-    ensures { λ r. ⌜ CountPromise (geometryOf g) (record { sizes = now (sizes .entry); words = now (words .entry); mem = now (mem .entry) })
+    requires { ⌜ Shaped (geometryOf g) (tables sizes words mem) ⌝ }
+    ensures { λ r. ⌜ CountPromise (geometryOf g) (before sizes words mem)
         (r .number) (r .used) (r .owed) ⌝ }
 {
     let mut counts = [0u32; 65536];
@@ -84,7 +84,7 @@ fn survey_shaped(g: Geometry, sizes: &[u64], words: &[u32], mem: &[u8]) -> Count
 
 // How many blocks are used, and how many are owed.
 pub fn count_blocks(g: Geometry, sizes: &[u64], words: &[u32], mem: &[u8]) -> Counts
-    ensures { λ r. ⌜ CountPromise (geometryOf g) (record { sizes = now (sizes .entry); words = now (words .entry); mem = now (mem .entry) })
+    ensures { λ r. ⌜ CountPromise (geometryOf g) (before sizes words mem)
         (r .number) (r .used) (r .owed) ⌝ }
 {
     if !g.good() {
@@ -106,7 +106,7 @@ pub fn count_blocks(g: Geometry, sizes: &[u64], words: &[u32], mem: &[u8]) -> Co
 
 // Whether a store is sound: 0, or the refusal.
 pub fn soundness(g: Geometry, sizes: &[u64], words: &[u32], mem: &[u8]) -> u32
-    ensures { λ r. ⌜ r ≡ storeRefusal (geometryOf g) (record { sizes = now (sizes .entry); words = now (words .entry); mem = now (mem .entry) }) ⌝ }
+    ensures { λ r. ⌜ r ≡ storeRefusal (geometryOf g) (before sizes words mem) ⌝ }
 {
     count_blocks(g, sizes, words, mem).number
 }

@@ -1,6 +1,6 @@
 // One slot shown without copying: its part of the block memory, or the zero page that the caller lends.
 ghost use mathlib.Core.Path.{_≡_};
-ghost use Rattle.store.specs.Lent.{geometryOf};
+ghost use Rattle.store.specs.Lent.{geometryOf, before};
 ghost use Rattle.rules.specs.Calls.{slotRefusal, slotView, KindPromise};
 use crate::files::zero_bytes;
 use crate::geometry::Geometry;
@@ -22,7 +22,7 @@ fn slot_refusal(
     f: usize,
     k: usize,
 ) -> u32
-    ensures { λ r. ⌜ r ≡ slotRefusal (geometryOf g) (record { sizes = now (sizes .entry); words = now (words .entry); mem = now (mem .entry) }) (now (page .entry)) f k ⌝ }
+    ensures { λ r. ⌜ r ≡ slotRefusal (geometryOf g) (before sizes words mem) (now (page .entry)) f k ⌝ }
 {
     let number = soundness(g, sizes, words, mem);
     if number == 1 {
@@ -58,7 +58,7 @@ pub fn slot_kind(
     f: usize,
     k: usize,
 ) -> Kind
-    ensures { λ r. ⌜ KindPromise (geometryOf g) (record { sizes = now (sizes .entry); words = now (words .entry); mem = now (mem .entry) }) (now (page .entry)) f k (r .number) (r .hole) ⌝ }
+    ensures { λ r. ⌜ KindPromise (geometryOf g) (before sizes words mem) (now (page .entry)) f k (r .number) (r .hole) ⌝ }
 {
     let number = slot_refusal(g, sizes, words, mem, page, f, k);
     if number != 0 {
@@ -80,7 +80,7 @@ pub fn slot_view<'a>(
     f: usize,
     k: usize,
 ) -> &'a [u8]
-    ensures { λ r. ⌜ now r ≡ slotView (geometryOf g) (record { sizes = now (sizes .entry); words = now (words .entry); mem = now (mem .entry) }) (now (page .entry)) f k ⌝ }
+    ensures { λ r. ⌜ now r ≡ slotView (geometryOf g) (before sizes words mem) (now (page .entry)) f k ⌝ }
 {
     if slot_refusal(g, sizes, words, mem, page, f, k) != 0 {
         return &page[0..0];

@@ -5,7 +5,7 @@ ghost use Prim.Native.Nat.{max, _+_, _-_, _*_, _^_, _<_, _≤_};
 ghost use lib.ListN.{length, getD, set};
 ghost use Rattle.rules.specs.Store.{goodGeometry};
 ghost use Rattle.rules.specs.Edit.{slotCount, edited, writing};
-ghost use Rattle.store.specs.Lent.{geometryOf};
+ghost use Rattle.store.specs.Lent.{geometryOf, after, before, tables};
 ghost use Rattle.store.specs.SlotBytes.{AllTouched};
 ghost use Rattle.store.specs.EditPromises.{EditPromise, WriteKnown, RegionKnown, SlotsKnown, Finished};
 use crate::bytes::write_slots;
@@ -67,11 +67,11 @@ fn write_range(
     d: &[u8],
     old: &mut [u32],
 ) -> bool
-    requires { ⌜ SlotsKnown (geometryOf g) (record { sizes = now sizes; words = now words; mem = now mem }) (now counts)
+    requires { ⌜ SlotsKnown (geometryOf g) (tables sizes words mem) (now counts)
         f off (off + length (now d)) first (length (now old)) ⌝ }
-    ensures { λ r. ⌜ EditPromise (geometryOf g) (record { sizes = now (sizes .entry); words = now (words .entry); mem = now (mem .entry) })
-        (edited (geometryOf g) (record { sizes = now (sizes .entry); words = now (words .entry); mem = now (mem .entry) }) (writing f off (off + length (now (d .entry))) (λ p. getD (now (d .entry)) (p - off) 0)))
-        r (record { sizes = now (sizes .exit); words = now (words .exit); mem = now (mem .exit) }) (now (counts .exit)) ⌝ }
+    ensures { λ r. ⌜ EditPromise (geometryOf g) (before sizes words mem)
+        (edited (geometryOf g) (before sizes words mem) (writing f off (off + length (now (d .entry))) (λ p. getD (now (d .entry)) (p - off) 0)))
+        r (after sizes words mem) (now (counts .exit)) ⌝ }
 {
     let i = f * g.slots + first;
     let n = old.len();
@@ -95,11 +95,11 @@ fn write_saving(
     d: &[u8],
     saved: &mut [u32],
 ) -> bool
-    requires { ⌜ RegionKnown (geometryOf g) (record { sizes = now sizes; words = now words; mem = now mem }) (now counts)
+    requires { ⌜ RegionKnown (geometryOf g) (tables sizes words mem) (now counts)
         f off (off + length (now d)) × (geometryOf g .S ≤ length (now saved)) ⌝ }
-    ensures { λ r. ⌜ EditPromise (geometryOf g) (record { sizes = now (sizes .entry); words = now (words .entry); mem = now (mem .entry) })
-        (edited (geometryOf g) (record { sizes = now (sizes .entry); words = now (words .entry); mem = now (mem .entry) }) (writing f off (off + length (now (d .entry))) (λ p. getD (now (d .entry)) (p - off) 0)))
-        r (record { sizes = now (sizes .exit); words = now (words .exit); mem = now (mem .exit) }) (now (counts .exit)) ⌝ }
+    ensures { λ r. ⌜ EditPromise (geometryOf g) (before sizes words mem)
+        (edited (geometryOf g) (before sizes words mem) (writing f off (off + length (now (d .entry))) (λ p. getD (now (d .entry)) (p - off) 0)))
+        r (after sizes words mem) (now (counts .exit)) ⌝ }
 {
     let n = slot_count(g, off, off + d.len());
     write_range(
@@ -127,11 +127,11 @@ fn write_some(
     off: usize,
     d: &[u8],
 ) -> bool
-    requires { ⌜ RegionKnown (geometryOf g) (record { sizes = now sizes; words = now words; mem = now mem }) (now counts)
+    requires { ⌜ RegionKnown (geometryOf g) (tables sizes words mem) (now counts)
         f off (off + length (now d)) ⌝ }
-    ensures { λ r. ⌜ EditPromise (geometryOf g) (record { sizes = now (sizes .entry); words = now (words .entry); mem = now (mem .entry) })
-        (edited (geometryOf g) (record { sizes = now (sizes .entry); words = now (words .entry); mem = now (mem .entry) }) (writing f off (off + length (now (d .entry))) (λ p. getD (now (d .entry)) (p - off) 0)))
-        r (record { sizes = now (sizes .exit); words = now (words .exit); mem = now (mem .exit) }) (now (counts .exit)) ⌝ }
+    ensures { λ r. ⌜ EditPromise (geometryOf g) (before sizes words mem)
+        (edited (geometryOf g) (before sizes words mem) (writing f off (off + length (now (d .entry))) (λ p. getD (now (d .entry)) (p - off) 0)))
+        r (after sizes words mem) (now (counts .exit)) ⌝ }
 {
     let mut saved = [0u32; 1024];
     write_saving(g, sizes, words, mem, counts, f, off, d, &mut saved)
@@ -149,11 +149,11 @@ pub fn write_file(
     off: usize,
     d: &[u8],
 ) -> bool
-    requires { ⌜ WriteKnown (geometryOf g) (record { sizes = now sizes; words = now words; mem = now mem }) (now counts)
+    requires { ⌜ WriteKnown (geometryOf g) (tables sizes words mem) (now counts)
         f off (length (now d)) ⌝ }
-    ensures { λ r. ⌜ EditPromise (geometryOf g) (record { sizes = now (sizes .entry); words = now (words .entry); mem = now (mem .entry) })
-        (edited (geometryOf g) (record { sizes = now (sizes .entry); words = now (words .entry); mem = now (mem .entry) }) (writing f off (off + length (now (d .entry))) (λ p. getD (now (d .entry)) (p - off) 0)))
-        r (record { sizes = now (sizes .exit); words = now (words .exit); mem = now (mem .exit) }) (now (counts .exit)) ⌝ }
+    ensures { λ r. ⌜ EditPromise (geometryOf g) (before sizes words mem)
+        (edited (geometryOf g) (before sizes words mem) (writing f off (off + length (now (d .entry))) (λ p. getD (now (d .entry)) (p - off) 0)))
+        r (after sizes words mem) (now (counts .exit)) ⌝ }
 {
     if d.len() == 0 {
         return true;

@@ -3,6 +3,7 @@ use Prim.Native.Nat.{ℕ, _+_, _-_, _*_, _≤_, _<_, max}
 use mathlib.Core.Path.{_≡_, refl, sym, ap, _∙_}
 use mathlib.Core.Bool.{Bool, true, false, not}
 use mathlib.Core.List.{List}
+use mathlib.Core.Logic.{_≢_}
 use native.Mathlib.Nat.{add-sub-cancel-left, mul-le-mul-right}
 use native.Mathlib.Omega.{arith}
 use borrow.Author.Tests.{le-leb, not-true, not-false}
@@ -107,6 +108,11 @@ slots-room g off end h some fits =
 
 pub region-room : {g : Geometry} {st : Store} {cs : List ℕ} {f off end : ℕ} → RegionKnown g st cs f off end → RegionRoom g off end
 region-room {g} {off = off} {end = end} k = slots-room g off end (k .known .shaped .geometry) (k .some) (k .fits)
+
+-- one of len bytes, at least one
+pub some-region : {g : Geometry} {st : Store} {cs : List ℕ} {f off len : ℕ} → EditKnown g st cs f → (0 < len → off + len ≤ g .S * g .B) → len ≢ 0
+    → RegionKnown g st cs f off (off + len)
+some-region k fits h = record { known = k; some = omega (arith, h); fits = fits (omega (arith, h)) }
 
 -- the words to save: of at least S the code lends n, as many as the region has slots
 module _ {g : Geometry} {st : Store} {cs : List ℕ} {f off end : ℕ} (k : RegionKnown g st cs f off end) {n : ℕ} (is : n ≡ slotCount g off end) where

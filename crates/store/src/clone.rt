@@ -38,31 +38,8 @@ fn clone_saving(
     true
 }
 
-// The same; it owns the words to save and only lends them.
-fn clone_some(
-    g: Geometry,
-    sizes: &mut [u64],
-    words: &mut [u32],
-    counts: &mut [u32],
-    mem: &[u8],
-    s: usize,
-    f: usize,
-    soff: usize,
-    off: usize,
-    n: usize,
-) -> bool
-    requires { ⌜ CloneKnown (geometryOf g) (tables sizes words mem) (now counts)
-        s f soff off n × (0 < n) ⌝ }
-    ensures { λ r. ⌜ EditPromise (geometryOf g) (before sizes words mem)
-        (edited (geometryOf g) (before sizes words mem) (cloning f off (off + n) s soff))
-        r (tables (sizes .exit) (words .exit) (mem .entry)) (now (counts .exit)) ⌝ }
-{
-    let mut saved = [0u32; 1024];
-    clone_saving(g, sizes, words, counts, mem, s, f, soff, off, n, &mut saved)
-}
-
 // Lets file f at `off` share the blocks of the n bytes of file s at `soff`. Answers false, and changes nothing, exactly if the
-// store would then need more blocks than there are.
+// store would then need more blocks than there are. It owns the words to save and only lends them.
 pub fn clone_file(
     g: Geometry,
     sizes: &mut [u64],
@@ -84,5 +61,6 @@ pub fn clone_file(
     if n == 0 {
         return true;
     }
-    clone_some(g, sizes, words, counts, mem, s, f, soff, off, n)
+    let mut saved = [0u32; 1024];
+    clone_saving(g, sizes, words, counts, mem, s, f, soff, off, n, &mut saved)
 }

@@ -107,31 +107,8 @@ fn copy_saving(
     )
 }
 
-// The same; it owns the words to save and only lends them.
-fn copy_some(
-    g: Geometry,
-    sizes: &mut [u64],
-    words: &mut [u32],
-    mem: &mut [u8],
-    counts: &mut [u32],
-    s: usize,
-    f: usize,
-    soff: usize,
-    off: usize,
-    n: usize,
-) -> bool
-    requires { ⌜ RegionKnown (geometryOf g) (tables sizes words mem) (now counts) f off (off + n)
-        × SourceKnown (geometryOf g) (tables sizes words mem) s f soff n ⌝ }
-    ensures { λ r. ⌜ EditPromise (geometryOf g) (before sizes words mem)
-        (edited (geometryOf g) (before sizes words mem) (copying f off (off + n) s soff))
-        r (after sizes words mem) (now (counts .exit)) ⌝ }
-{
-    let mut saved = [0u32; 1024];
-    copy_saving(g, sizes, words, mem, counts, s, f, soff, off, n, &mut saved)
-}
-
 // Copies n bytes of file s from soff on to file f at `off`. Answers false, and changes nothing, exactly if the store would then
-// need more blocks than there are.
+// need more blocks than there are. It owns the words to save and only lends them.
 pub fn copy_file(
     g: Geometry,
     sizes: &mut [u64],
@@ -152,5 +129,6 @@ pub fn copy_file(
     if n == 0 {
         return true;
     }
-    copy_some(g, sizes, words, mem, counts, s, f, soff, off, n)
+    let mut saved = [0u32; 1024];
+    copy_saving(g, sizes, words, mem, counts, s, f, soff, off, n, &mut saved)
 }

@@ -73,29 +73,8 @@ fn cut_saving(
     )
 }
 
-// The same; it owns the words to save and only lends them.
-fn cut_some(
-    g: Geometry,
-    sizes: &[u64],
-    words: &mut [u32],
-    mem: &mut [u8],
-    counts: &mut [u32],
-    f: usize,
-    off: usize,
-    end: usize,
-) -> bool
-    requires { ⌜ CutRegion (geometryOf g) (tables sizes words mem) (now counts)
-        f off end ⌝ }
-    ensures { λ r. ⌜ EditPromise (geometryOf g) (before sizes words mem)
-        (edited (geometryOf g) (before sizes words mem) (deallocating f off end))
-        r (tables (sizes .entry) (words .exit) (mem .exit)) (now (counts .exit)) ⌝ }
-{
-    let mut saved = [0u32; 1024];
-    cut_saving(g, sizes, words, mem, counts, f, off, end, &mut saved)
-}
-
 // Makes the bytes of file f from `off` up to `end`, at most its size, zero. Answers false, and changes nothing, exactly if the
-// store would then need more blocks than there are.
+// store would then need more blocks than there are. It owns the words to save and only lends them.
 pub fn deallocate_file(
     g: Geometry,
     sizes: &[u64],
@@ -114,5 +93,6 @@ pub fn deallocate_file(
     if end <= off {
         return true;
     }
-    cut_some(g, sizes, words, mem, counts, f, off, end)
+    let mut saved = [0u32; 1024];
+    cut_saving(g, sizes, words, mem, counts, f, off, end, &mut saved)
 }

@@ -116,29 +116,8 @@ fn write_saving(
     )
 }
 
-// The same; it owns the words to save and only lends them.
-fn write_some(
-    g: Geometry,
-    sizes: &mut [u64],
-    words: &mut [u32],
-    mem: &mut [u8],
-    counts: &mut [u32],
-    f: usize,
-    off: usize,
-    d: &[u8],
-) -> bool
-    requires { ⌜ RegionKnown (geometryOf g) (tables sizes words mem) (now counts)
-        f off (off + length (now d)) ⌝ }
-    ensures { λ r. ⌜ EditPromise (geometryOf g) (before sizes words mem)
-        (edited (geometryOf g) (before sizes words mem) (writing f off (off + length (now (d .entry))) (λ p. getD (now (d .entry)) (p - off) 0)))
-        r (after sizes words mem) (now (counts .exit)) ⌝ }
-{
-    let mut saved = [0u32; 1024];
-    write_saving(g, sizes, words, mem, counts, f, off, d, &mut saved)
-}
-
 // Writes d into file f at `off`. Answers false, and changes nothing, exactly if the store would then need more blocks than
-// there are.
+// there are. It owns the words to save and only lends them.
 pub fn write_file(
     g: Geometry,
     sizes: &mut [u64],
@@ -158,5 +137,6 @@ pub fn write_file(
     if d.len() == 0 {
         return true;
     }
-    write_some(g, sizes, words, mem, counts, f, off, d)
+    let mut saved = [0u32; 1024];
+    write_saving(g, sizes, words, mem, counts, f, off, d, &mut saved)
 }

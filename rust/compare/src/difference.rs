@@ -1,11 +1,10 @@
 //! Whether two servers differ, and where.
 
-use std::fmt::{self, Display};
+use std::fmt::Display;
 
 use second::Store;
 
-use crate::pair::{Observed, OnCopy};
-use crate::server::Answer;
+use crate::observed::{Observed, OnCopy};
 
 /// Where two servers part.
 pub struct Difference {
@@ -13,31 +12,6 @@ pub struct Difference {
     pub steps: usize,
     pub what: String,
     pub answers: [String; 2],
-}
-
-impl fmt::Display for Observed {
-    fn fmt(&self, f: &mut fmt::Formatter) -> fmt::Result {
-        let Observed {
-            served,
-            soundness,
-            counted,
-            on_copy,
-        } = self;
-        if let Some(Answer { number, counts }) = served {
-            let [read, written] = counts;
-            write!(f, "serve {number}, read {read}, written {written}; ")?;
-        }
-        write!(f, "soundness {soundness}; count_blocks {}", counted.number)?;
-        write!(
-            f,
-            ", used {}, owed {}",
-            counted.counts[0], counted.counts[1]
-        )?;
-        match on_copy {
-            Some(on_copy) => write!(f, "; make_empty {}", on_copy.emptied),
-            None => Ok(()),
-        }
-    }
 }
 
 pub fn observations_differ(left: &Observed, right: &Observed) -> Option<String> {

@@ -8,6 +8,7 @@
 mod difference;
 mod generator;
 mod list;
+mod observed;
 mod pair;
 pub mod program;
 mod random;

@@ -6,6 +6,7 @@ use crate::difference::{
     answers_differ, observations_differ, slices_differ, tables_differ, Difference,
 };
 use crate::list::{Call, Step, Words};
+use crate::observed::{Observed, OnCopy};
 use crate::server::{Answer, Server};
 use crate::wire::{self, Outcome};
 
@@ -19,21 +20,6 @@ struct Side<'a> {
     server: &'a dyn Server,
     store: Store,
     reply: Vec<u8>,
-}
-
-/// What one side shows of a step besides its store and its reply buffer.
-pub(crate) struct Observed {
-    pub served: Option<Answer>,
-    pub soundness: u32,
-    pub counted: Answer,
-    /// Of a call with tables of its own.
-    pub on_copy: Option<OnCopy>,
-}
-
-/// What making an empty store of a call's own tables gives, and the tables before and after it.
-pub(crate) struct OnCopy {
-    pub emptied: u32,
-    pub tables: [Store; 2],
 }
 
 impl Side<'_> {

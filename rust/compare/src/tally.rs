@@ -5,7 +5,7 @@ use std::fmt;
 
 use second::Geometry;
 
-use crate::pair::Observed;
+use crate::observed::Observed;
 use crate::wire::{self, Outcome};
 
 /// The statuses of operations.

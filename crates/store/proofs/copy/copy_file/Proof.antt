@@ -1,5 +1,5 @@
-use native.Mathlib.Omega.{arith}
 use Rattle.store.proofs.CopyEdit.{copy-empty}
+use Rattle.store.proofs.WriteEdit.{region-room, some-region}
 use borrow.Author.Needs.{needs}
 use Rattle.store.proofs.copy.copy_file.Statement.{statement}
 use Rattle.store.proofs.copy.copy_file.Tie as tie
@@ -7,11 +7,15 @@ use Rattle.store.proofs.copy.copy_file.Tie as tie
 returns : tie.Need-returns
 returns c = let s = c .before .before .before .before .before in copy-empty (s .pre .known) _ _ _ _ (c .if1 .taken)
 
-copy-some-requires : tie.Need-copy-some-requires
-copy-some-requires c κs =
-    let t = c .before .before .before .before in
+slice-aggregate-copy-saving : tie.Need-slice-aggregate-copy-saving
+slice-aggregate-copy-saving c = search needs
+
+copy-saving-requires : tie.Need-copy-saving-requires
+copy-saving-requires c κs =
+    let t = c .before .before .before .before .before in
     let s = t .before .before .before .before .before in
-    (record { known = s .pre .known; some = omega arith; fits = s .pre .fits (omega arith) }, s .pre .source)
+    let k = some-region (s .pre .known) (s .pre .fits) (t .if1 .left) in
+    (k, (s .pre .source, region-room k .slots-most))
 
 same-length : tie.Need-same-length
 same-length c = search needs
@@ -33,7 +37,8 @@ copy-file-spec =
     tie.close
     (tie.spec
     returns
-    copy-some-requires
+    slice-aggregate-copy-saving
+    copy-saving-requires
     same-length
     same-length-2
     same-length-3

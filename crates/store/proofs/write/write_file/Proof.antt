@@ -1,5 +1,4 @@
-use native.Mathlib.Omega.{arith}
-use Rattle.store.proofs.WriteEdit.{write-empty}
+use Rattle.store.proofs.WriteEdit.{write-empty, region-room, some-region}
 use borrow.Author.Needs.{needs}
 use Rattle.store.proofs.write.write_file.Statement.{statement}
 use Rattle.store.proofs.write.write_file.Tie as tie
@@ -7,11 +6,15 @@ use Rattle.store.proofs.write.write_file.Tie as tie
 returns : tie.Need-returns
 returns c = let s = c .before .before .before .before .before .before in write-empty (s .pre .known) _ _ _ (c .if1 .taken)
 
-write-some-requires : tie.Need-write-some-requires
-write-some-requires c κs =
-    let t = c .before .before .before .before in
+slice-aggregate-write-saving : tie.Need-slice-aggregate-write-saving
+slice-aggregate-write-saving c = search needs
+
+write-saving-requires : tie.Need-write-saving-requires
+write-saving-requires c κs =
+    let t = c .before .before .before .before .before in
     let s = t .before .before .before .before .before .before in
-    record { known = s .pre .known; some = omega arith; fits = s .pre .fits (omega arith) }
+    let k = some-region (s .pre .known) (s .pre .fits) (t .if1 .left) in
+    (k, region-room k .slots-most)
 
 same-length : tie.Need-same-length
 same-length c = search needs
@@ -33,7 +36,8 @@ write-file-spec =
     tie.close
     (tie.spec
     returns
-    write-some-requires
+    slice-aggregate-write-saving
+    write-saving-requires
     same-length
     same-length-2
     same-length-3

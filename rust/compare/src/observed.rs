@@ -1,0 +1,47 @@
+//! What one server shows of a step.
+
+use std::fmt;
+
+use second::Store;
+
+use crate::server::Answer;
+
+/// What one side shows of a step besides its store and its reply buffer.
+pub(crate) struct Observed {
+    pub served: Option<Answer>,
+    pub soundness: u32,
+    pub counted: Answer,
+    /// Of a call with tables of its own.
+    pub on_copy: Option<OnCopy>,
+}
+
+/// What making an empty store of a call's own tables gives, and the tables before and after it.
+pub(crate) struct OnCopy {
+    pub emptied: u32,
+    pub tables: [Store; 2],
+}
+
+impl fmt::Display for Observed {
+    fn fmt(&self, f: &mut fmt::Formatter) -> fmt::Result {
+        let Observed {
+            served,
+            soundness,
+            counted,
+            on_copy,
+        } = self;
+        if let Some(Answer { number, counts }) = served {
+            let [read, written] = counts;
+            write!(f, "serve {number}, read {read}, written {written}; ")?;
+        }
+        write!(f, "soundness {soundness}; count_blocks {}", counted.number)?;
+        write!(
+            f,
+            ", used {}, owed {}",
+            counted.counts[0], counted.counts[1]
+        )?;
+        match on_copy {
+            Some(on_copy) => write!(f, "; make_empty {}", on_copy.emptied),
+            None => Ok(()),
+        }
+    }
+}

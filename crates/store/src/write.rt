@@ -83,39 +83,6 @@ fn write_range(
     true
 }
 
-// A WRITE of some bytes. `saved` has a word for each slot of a file.
-fn write_saving(
-    g: Geometry,
-    sizes: &mut [u64],
-    words: &mut [u32],
-    mem: &mut [u8],
-    counts: &mut [u32],
-    f: usize,
-    off: usize,
-    d: &[u8],
-    saved: &mut [u32],
-) -> bool
-    requires { ⌜ RegionKnown (geometryOf g) (tables sizes words mem) (now counts)
-        f off (off + length (now d)) × (geometryOf g .S ≤ length (now saved)) ⌝ }
-    ensures { λ r. ⌜ EditPromise (geometryOf g) (before sizes words mem)
-        (edited (geometryOf g) (before sizes words mem) (writing f off (off + length (now (d .entry))) (λ p. getD (now (d .entry)) (p - off) 0)))
-        r (after sizes words mem) (now (counts .exit)) ⌝ }
-{
-    let n = slot_count(g, off, off + d.len());
-    write_range(
-        g,
-        sizes,
-        words,
-        mem,
-        counts,
-        f,
-        off / g.block_size,
-        off,
-        d,
-        &mut saved[..n],
-    )
-}
-
 // Writes d into file f at `off`. Answers false, and changes nothing, exactly if the store would then need more blocks than
 // there are. It owns the words to save and only lends them.
 pub fn write_file(
@@ -137,6 +104,18 @@ pub fn write_file(
     if d.len() == 0 {
         return true;
     }
+    let n = slot_count(g, off, off + d.len());
     let mut saved = [0u32; 1024];
-    write_saving(g, sizes, words, mem, counts, f, off, d, &mut saved)
+    write_range(
+        g,
+        sizes,
+        words,
+        mem,
+        counts,
+        f,
+        off / g.block_size,
+        off,
+        d,
+        &mut saved[..n],
+    )
 }

@@ -70,43 +70,6 @@ fn copy_planned(
     true
 }
 
-// A COPY of n bytes, at least one. `saved` has a word for each slot of a file.
-fn copy_saving(
-    g: Geometry,
-    sizes: &mut [u64],
-    words: &mut [u32],
-    mem: &mut [u8],
-    counts: &mut [u32],
-    s: usize,
-    f: usize,
-    soff: usize,
-    off: usize,
-    n: usize,
-    saved: &mut [u32],
-) -> bool
-    requires { ⌜ RegionKnown (geometryOf g) (tables sizes words mem) (now counts) f off (off + n)
-        × (SourceKnown (geometryOf g) (tables sizes words mem) s f soff n × (geometryOf g .S ≤ length (now saved))) ⌝ }
-    ensures { λ r. ⌜ EditPromise (geometryOf g) (before sizes words mem)
-        (edited (geometryOf g) (before sizes words mem) (copying f off (off + n) s soff))
-        r (after sizes words mem) (now (counts .exit)) ⌝ }
-{
-    let count = slot_count(g, off, off + n);
-    copy_planned(
-        g,
-        sizes,
-        words,
-        mem,
-        counts,
-        s,
-        f,
-        soff,
-        off / g.block_size,
-        off,
-        n,
-        &mut saved[..count],
-    )
-}
-
 // Copies n bytes of file s from soff on to file f at `off`. Answers false, and changes nothing, exactly if the store would then
 // need more blocks than there are. It owns the words to save and only lends them.
 pub fn copy_file(
@@ -129,6 +92,20 @@ pub fn copy_file(
     if n == 0 {
         return true;
     }
+    let count = slot_count(g, off, off + n);
     let mut saved = [0u32; 1024];
-    copy_saving(g, sizes, words, mem, counts, s, f, soff, off, n, &mut saved)
+    copy_planned(
+        g,
+        sizes,
+        words,
+        mem,
+        counts,
+        s,
+        f,
+        soff,
+        off / g.block_size,
+        off,
+        n,
+        &mut saved[..count],
+    )
 }

@@ -40,39 +40,6 @@ fn cut_range(
     true
 }
 
-// A DEALLOCATE of a region that has a byte. `saved` has a word for each slot of a file.
-fn cut_saving(
-    g: Geometry,
-    sizes: &[u64],
-    words: &mut [u32],
-    mem: &mut [u8],
-    counts: &mut [u32],
-    f: usize,
-    off: usize,
-    end: usize,
-    saved: &mut [u32],
-) -> bool
-    requires { ⌜ CutRegion (geometryOf g) (tables sizes words mem) (now counts)
-        f off end × (geometryOf g .S ≤ length (now saved)) ⌝ }
-    ensures { λ r. ⌜ EditPromise (geometryOf g) (before sizes words mem)
-        (edited (geometryOf g) (before sizes words mem) (deallocating f off end))
-        r (tables (sizes .entry) (words .exit) (mem .exit)) (now (counts .exit)) ⌝ }
-{
-    let n = slot_count(g, off, end);
-    cut_range(
-        g,
-        sizes,
-        words,
-        mem,
-        counts,
-        f,
-        off / g.block_size,
-        off,
-        end,
-        &mut saved[..n],
-    )
-}
-
 // Makes the bytes of file f from `off` up to `end`, at most its size, zero. Answers false, and changes nothing, exactly if the
 // store would then need more blocks than there are. It owns the words to save and only lends them.
 pub fn deallocate_file(
@@ -93,6 +60,18 @@ pub fn deallocate_file(
     if end <= off {
         return true;
     }
+    let n = slot_count(g, off, end);
     let mut saved = [0u32; 1024];
-    cut_saving(g, sizes, words, mem, counts, f, off, end, &mut saved)
+    cut_range(
+        g,
+        sizes,
+        words,
+        mem,
+        counts,
+        f,
+        off / g.block_size,
+        off,
+        end,
+        &mut saved[..n],
+    )
 }

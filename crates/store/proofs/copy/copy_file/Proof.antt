@@ -1,5 +1,7 @@
+use mathlib.Core.Path.{sym}
+use native.Mathlib.Omega.{arith}
+use Rattle.store.proofs.WriteEdit.{region-room, some-region, saved-room, saved-long, saved-slots}
 use Rattle.store.proofs.CopyEdit.{copy-empty}
-use Rattle.store.proofs.WriteEdit.{region-room, some-region}
 use borrow.Author.Needs.{needs}
 use Rattle.store.proofs.copy.copy_file.Statement.{statement}
 use Rattle.store.proofs.copy.copy_file.Tie as tie
@@ -7,15 +9,46 @@ use Rattle.store.proofs.copy.copy_file.Tie as tie
 returns : tie.Need-returns
 returns c = let s = c .before .before .before .before .before in copy-empty (s .pre .known) _ _ _ _ (c .if1 .taken)
 
-slice-aggregate-copy-saving : tie.Need-slice-aggregate-copy-saving
-slice-aggregate-copy-saving c = search needs
+add-slot-count : tie.Need-add-slot-count
+add-slot-count c =
+    let s = c .before .before .before .before .before in
+    omega (arith, region-room (some-region (s .pre .known) (s .pre .fits) (c .if1 .left)))
 
-copy-saving-requires : tie.Need-copy-saving-requires
-copy-saving-requires c κs =
-    let t = c .before .before .before .before .before in
+slot-count-requires : tie.Need-slot-count-requires
+slot-count-requires c κs =
+    let s = c .before .before .before .before .before in
+    let r = some-region (s .pre .known) (s .pre .fits) (c .if1 .left) in
+    (r .known .shaped .geometry, (r .some, r .fits))
+
+div-copy-planned : tie.Need-div-copy-planned
+div-copy-planned c =
+    let t = c .before .before .before .before .before .before in
     let s = t .before .before .before .before .before in
-    let k = some-region (s .pre .known) (s .pre .fits) (t .if1 .left) in
-    (k, (s .pre .source, region-room k .slots-most))
+    omega (arith, region-room (some-region (s .pre .known) (s .pre .fits) (t .if1 .left)))
+
+array-borrow-prefix-saved : tie.Need-array-borrow-prefix-saved
+array-borrow-prefix-saved c =
+    let k = c .before .before .before .before .before in
+    let t = k .before in
+    let s = t .before .before .before .before .before in
+    let r = some-region (s .pre .known) (s .pre .fits) (t .if1 .left) in
+    saved-room r (k .slot-count .ensures) (region-room r .slots-most)
+
+slice-aggregate-copy-planned : tie.Need-slice-aggregate-copy-planned
+slice-aggregate-copy-planned c =
+    let k = c .before .before .before .before .before .before in
+    let t = k .before in
+    let s = t .before .before .before .before .before in
+    let r = some-region (s .pre .known) (s .pre .fits) (t .if1 .left) in
+    sym (saved-long r (k .slot-count .ensures) _ (region-room r .slots-most))
+
+copy-planned-requires : tie.Need-copy-planned-requires
+copy-planned-requires c κs =
+    let k = c .before .before .before .before .before .before in
+    let t = k .before in
+    let s = t .before .before .before .before .before in
+    let r = some-region (s .pre .known) (s .pre .fits) (t .if1 .left) in
+    (saved-slots r (k .slot-count .ensures) _ (region-room r .slots-most), s .pre .source)
 
 same-length : tie.Need-same-length
 same-length c = search needs
@@ -37,8 +70,12 @@ copy-file-spec =
     tie.close
     (tie.spec
     returns
-    slice-aggregate-copy-saving
-    copy-saving-requires
+    add-slot-count
+    slot-count-requires
+    div-copy-planned
+    array-borrow-prefix-saved
+    slice-aggregate-copy-planned
+    copy-planned-requires
     same-length
     same-length-2
     same-length-3

@@ -1,23 +1,49 @@
+use mathlib.Core.Path.{sym}
+use native.Mathlib.Omega.{arith}
+use Rattle.store.proofs.WriteEdit.{region-room, saved-room, saved-long, saved-slots}
 use Rattle.store.proofs.CutEdit.{cut-empty, cut-region}
-use Rattle.store.proofs.WriteEdit.{region-room}
 use borrow.Author.Needs.{needs}
 use Rattle.store.proofs.deallocate.deallocate_file.Statement.{statement}
 use Rattle.store.proofs.deallocate.deallocate_file.Tie as tie
 
 returns : tie.Need-returns
-returns c =
+returns c = let s = c .before .before .before .before .before in cut-empty (s .pre) (c .if1 .taken)
+
+slot-count-requires : tie.Need-slot-count-requires
+slot-count-requires c κs =
     let s = c .before .before .before .before .before in
-    cut-empty (s .pre) (c .if1 .taken)
+    let r = cut-region (s .pre) (c .if1 .left) .region in
+    (r .known .shaped .geometry, (r .some, r .fits))
 
-slice-aggregate-cut-saving : tie.Need-slice-aggregate-cut-saving
-slice-aggregate-cut-saving c = search needs
-
-cut-saving-requires : tie.Need-cut-saving-requires
-cut-saving-requires c κs =
-    let t = c .before .before .before .before in
+div-cut-range : tie.Need-div-cut-range
+div-cut-range c =
+    let t = c .before .before .before .before .before in
     let s = t .before .before .before .before .before in
-    let k = cut-region (s .pre) (t .if1 .left) in
-    (k, region-room (k .region) .slots-most)
+    omega (arith, region-room (cut-region (s .pre) (t .if1 .left) .region))
+
+array-borrow-prefix-saved : tie.Need-array-borrow-prefix-saved
+array-borrow-prefix-saved c =
+    let k = c .before .before .before .before in
+    let t = k .before in
+    let s = t .before .before .before .before .before in
+    let r = cut-region (s .pre) (t .if1 .left) .region in
+    saved-room r (k .slot-count .ensures) (region-room r .slots-most)
+
+slice-aggregate-cut-range : tie.Need-slice-aggregate-cut-range
+slice-aggregate-cut-range c =
+    let k = c .before .before .before .before .before in
+    let t = k .before in
+    let s = t .before .before .before .before .before in
+    let r = cut-region (s .pre) (t .if1 .left) .region in
+    sym (saved-long r (k .slot-count .ensures) _ (region-room r .slots-most))
+
+cut-range-requires : tie.Need-cut-range-requires
+cut-range-requires c κs =
+    let k = c .before .before .before .before .before in
+    let t = k .before in
+    let s = t .before .before .before .before .before in
+    let r = cut-region (s .pre) (t .if1 .left) .region in
+    record { slots = saved-slots r (k .slot-count .ensures) _ (region-room r .slots-most); cut = s .pre .cut }
 
 same-length : tie.Need-same-length
 same-length c = search needs
@@ -36,8 +62,11 @@ deallocate-file-spec =
     tie.close
     (tie.spec
     returns
-    slice-aggregate-cut-saving
-    cut-saving-requires
+    slot-count-requires
+    div-cut-range
+    array-borrow-prefix-saved
+    slice-aggregate-cut-range
+    cut-range-requires
     same-length
     same-length-2
     same-length-3

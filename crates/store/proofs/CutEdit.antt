@@ -16,7 +16,7 @@ use Rattle.rules.proofs.SoundStore.{Sound}
 use Rattle.rules.proofs.EditForms.{deallocate-is}
 use Rattle.store.specs.Own.{skipsBy, DeallocatePlanned}
 use Rattle.store.specs.SlotBytes.{AllEdges, zeroSlots}
-use Rattle.store.specs.EditPromises.{EditPromise, SlotsKnown, CutKnown, CutRegion, CutSlots}
+use Rattle.store.specs.EditPromises.{EditPromise, RegionKnown, SlotsKnown, CutKnown, CutSlots}
 use Rattle.store.proofs.SettleLaws.{saved-pool, plan-deallocate-is}
 use Rattle.store.proofs.EdgeLaws.{edges-touched, zero-bytes-is, edge-held}
 use Rattle.store.proofs.WriteEdit.{edit-refused, edit-done, sound-store, slotAt, lent, slots-inside, lent-count, part-long}
@@ -29,11 +29,8 @@ module _ {g : Geometry} {st : Store} {cs : List ℕ} {f off end : ℕ} (k : CutK
   unfolding edited
   cut-empty h = rw (le-leb end off h) (edit-done g st st st cs (le-leb (need (st .words)) (g .N) (sound-store (k .known) .room)) refl refl refl (k .known .counted))
 
-  pub cut-region : off < end → CutRegion g st cs f off end
-  cut-region h = record {
-    region = record { known = k .known; some = h; fits = le-trans (k .cut) (sound-store (k .known) .fits f (k .known .file)) };
-    cut = k .cut;
-  }
+  pub cut-region : off < end → RegionKnown g st cs f off end
+  cut-region h = record { known = k .known; some = h; fits = le-trans (k .cut) (sound-store (k .known) .fits f (k .known .file)) }
 
 -- ---- after the plan
 

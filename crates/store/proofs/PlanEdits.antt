@@ -3,6 +3,7 @@ use Prim.Native.Nat.{ℕ, _+_, _*_, _/_, _%_, _≤_, _<_, max}
 use mathlib.Core.Path.{_≡_, refl, _∙_}
 use mathlib.Core.Bool.{Bool, true, false, not}
 use mathlib.Core.List.{List}
+use mathlib.Core.Logic.{_≢_}
 use native.Mathlib.Nat.{mul-le-mul-right, div-add-mod'}
 use native.Mathlib.Omega.{arith}
 use borrow.Author.Tests.{le-leb}
@@ -67,7 +68,10 @@ module _ {g : Geometry} {st : Store} {cs : List ℕ} {s f soff off n : ℕ} (k :
   unfolding edited
   clone-empty e = edit-none (k .known) _ (rw (le-leb (off + n) off (omega arith)))
 
-  module _ (some : 0 < n) where
+  module _ (h : n ≢ 0) where
+    some : 0 < n
+    some = omega (arith, h)
+
     pub clone-room : CloneRoom g st s f soff off n
     clone-room =
         let o = good-geometry (k .known) in

@@ -114,14 +114,14 @@ pub some-region : {g : Geometry} {st : Store} {cs : List ℕ} {f off len : ℕ} 
     → RegionKnown g st cs f off (off + len)
 some-region k fits h = record { known = k; some = omega (arith, h); fits = fits (omega (arith, h)) }
 
--- the words to save: of at least S the code lends n, as many as the region has slots
+-- the words to save: of 1,024 the code lends n, as many as the region has slots
 module _ {g : Geometry} {st : Store} {cs : List ℕ} {f off end : ℕ} (k : RegionKnown g st cs f off end) {n : ℕ} (is : n ≡ slotCount g off end) where
-  pub saved-room : {m : ℕ} → g .S ≤ m → n ≤ m
-  saved-room h = omega (arith, region-room k .slots)
+  pub saved-room : n ≤ 1024
+  saved-room = omega (arith, region-room k)
 
-  module _ (saved : List ℕ) (h : g .S ≤ length saved) where
+  module _ (saved : List ℕ) (h : length saved ≡ 1024) where
     pub saved-long : length (take n saved) ≡ n
-    saved-long = length-take-le n saved (saved-room h)
+    saved-long = length-take-le n saved (rw h saved-room)
 
     pub saved-slots : SlotsKnown g st cs f off end (firstSlot g off) (length (take n saved))
     saved-slots = record { region = k; first-is = refl; count-is = saved-long ∙ is }

@@ -62,12 +62,7 @@ pub record CutKnown (g : Geometry) (st : Store) (counts : List ℕ) (f end : ℕ
   pub known : EditKnown g st counts f
   pub cut : end ≤ sizeOf st f
 
--- one that has a byte
-pub record CutRegion (g : Geometry) (st : Store) (counts : List ℕ) (f off end : ℕ) : Type 0 where
-  pub region : RegionKnown g st counts f off end
-  pub cut : end ≤ sizeOf st f
-
--- its slots are the n from `first` on
+-- one that has a byte; its slots are the n from `first` on
 pub record CutSlots (g : Geometry) (st : Store) (counts : List ℕ) (f off end first n : ℕ) : Type 0 where
   pub slots : SlotsKnown g st counts f off end first n
   pub cut : end ≤ sizeOf st f

@@ -1,6 +1,5 @@
 // ALLOCATE: the plan of its slots, and where the plan fits the pool the size. No byte of memory changes.
-ghost use Prim.Native.Nat.{_+_, _≤_};
-ghost use lib.ListN.{length};
+ghost use Prim.Native.Nat.{_+_};
 ghost use Rattle.store.specs.Lent.{geometryOf, before, tables};
 ghost use Rattle.rules.specs.Edit.{edited, allocating};
 ghost use Rattle.store.specs.EditPromises.{EditPromise, RegionKnown};
@@ -9,36 +8,8 @@ use crate::geometry::Geometry;
 use crate::write::grow;
 use crate::write::slot_count;
 
-// `saved` has a word for each slot of a file.
-fn allocate_saving(
-    g: Geometry,
-    sizes: &mut [u64],
-    words: &mut [u32],
-    counts: &mut [u32],
-    mem: &[u8],
-    f: usize,
-    off: usize,
-    n: usize,
-    saved: &mut [u32],
-) -> bool
-    requires { ⌜ RegionKnown (geometryOf g) (tables sizes words mem) (now counts)
-        f off (off + n) × (geometryOf g .S ≤ length (now saved)) ⌝ }
-    ensures { λ r. ⌜ EditPromise (geometryOf g) (before sizes words mem)
-        (edited (geometryOf g) (before sizes words mem) (allocating f off (off + n)))
-        r (tables (sizes .exit) (words .exit) (mem .entry)) (now (counts .exit)) ⌝ }
-{
-    let end = off + n;
-    let count = slot_count(g, off, end);
-    let i = f * g.slots + off / g.block_size;
-    if !plan_allocate(words, counts, i, count, &mut saved[..count]) {
-        return false;
-    }
-    grow(sizes, f, end);
-    true
-}
-
 // Reserves the slots of the n bytes of file f from `off` on. Answers false, and changes nothing, exactly if the store would then
-// need more blocks than there are. It owns the words to save and only lends them.
+// need more blocks than there are.
 pub fn allocate_file(
     g: Geometry,
     sizes: &mut [u64],
@@ -55,6 +26,13 @@ pub fn allocate_file(
         (edited (geometryOf g) (before sizes words mem) (allocating f off (off + n)))
         r (tables (sizes .exit) (words .exit) (mem .entry)) (now (counts .exit)) ⌝ }
 {
+    let end = off + n;
+    let count = slot_count(g, off, end);
+    let i = f * g.slots + off / g.block_size;
     let mut saved = [0u32; 1024];
-    allocate_saving(g, sizes, words, counts, mem, f, off, n, &mut saved)
+    if !plan_allocate(words, counts, i, count, &mut saved[..count]) {
+        return false;
+    }
+    grow(sizes, f, end);
+    true
 }

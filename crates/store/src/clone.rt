@@ -1,6 +1,5 @@
 // CLONE: the plan of the target's slots, and where the plan fits the pool the size. No byte of memory changes.
-ghost use Prim.Native.Nat.{_<_, _≤_, _+_};
-ghost use lib.ListN.{length};
+ghost use Prim.Native.Nat.{_+_};
 ghost use Rattle.store.specs.Lent.{geometryOf, before, tables};
 ghost use Rattle.rules.specs.Edit.{edited, cloning};
 ghost use Rattle.store.specs.EditPromises.{EditPromise, CloneKnown};
@@ -8,38 +7,8 @@ use crate::edit_plans::plan_clone;
 use crate::geometry::Geometry;
 use crate::write::grow;
 
-// A CLONE of some bytes. `saved` has a word for each slot of a file.
-fn clone_saving(
-    g: Geometry,
-    sizes: &mut [u64],
-    words: &mut [u32],
-    counts: &mut [u32],
-    mem: &[u8],
-    s: usize,
-    f: usize,
-    soff: usize,
-    off: usize,
-    n: usize,
-    saved: &mut [u32],
-) -> bool
-    requires { ⌜ CloneKnown (geometryOf g) (tables sizes words mem) (now counts)
-        s f soff off n × ((0 < n) × (geometryOf g .S ≤ length (now saved))) ⌝ }
-    ensures { λ r. ⌜ EditPromise (geometryOf g) (before sizes words mem)
-        (edited (geometryOf g) (before sizes words mem) (cloning f off (off + n) s soff))
-        r (tables (sizes .exit) (words .exit) (mem .entry)) (now (counts .exit)) ⌝ }
-{
-    let from = s * g.slots + soff / g.block_size;
-    let to = f * g.slots + off / g.block_size;
-    let count = (n + (g.block_size - 1)) / g.block_size;
-    if !plan_clone(words, counts, from, to, count, &mut saved[..count]) {
-        return false;
-    }
-    grow(sizes, f, off + n);
-    true
-}
-
 // Lets file f at `off` share the blocks of the n bytes of file s at `soff`. Answers false, and changes nothing, exactly if the
-// store would then need more blocks than there are. It owns the words to save and only lends them.
+// store would then need more blocks than there are.
 pub fn clone_file(
     g: Geometry,
     sizes: &mut [u64],
@@ -61,6 +30,13 @@ pub fn clone_file(
     if n == 0 {
         return true;
     }
+    let from = s * g.slots + soff / g.block_size;
+    let to = f * g.slots + off / g.block_size;
+    let count = (n + (g.block_size - 1)) / g.block_size;
     let mut saved = [0u32; 1024];
-    clone_saving(g, sizes, words, counts, mem, s, f, soff, off, n, &mut saved)
+    if !plan_clone(words, counts, from, to, count, &mut saved[..count]) {
+        return false;
+    }
+    grow(sizes, f, off + n);
+    true
 }

@@ -1,11 +1,11 @@
 // COPY: as WRITE, with the bytes of another file.
-ghost use Prim.Native.Nat.{_+_, _-_, _<_, _≤_};
+ghost use Prim.Native.Nat.{_+_, _-_, _<_};
 ghost use lib.ListN.{length};
 ghost use Rattle.store.specs.Lent.{geometryOf, after, before, tables};
 ghost use Rattle.rules.specs.Store.{byteAt};
 ghost use Rattle.rules.specs.Edit.{edited, copying};
 ghost use Rattle.store.specs.SlotBytes.{AllCopies};
-ghost use Rattle.store.specs.EditPromises.{EditPromise, RegionKnown, SlotsKnown, SourceKnown, CopyKnown, Finished};
+ghost use Rattle.store.specs.EditPromises.{EditPromise, SlotsKnown, SourceKnown, CopyKnown, Finished};
 use crate::copy_bytes::copy_range;
 use crate::geometry::Geometry;
 use crate::plan::plan_write;

@@ -1,9 +1,8 @@
 // DEALLOCATE: the plan of its slots, and where the plan fits the pool the bytes. The size stays.
-ghost use Prim.Native.Nat.{_≤_};
 ghost use lib.ListN.{length};
 ghost use Rattle.store.specs.Lent.{geometryOf, before, tables};
 ghost use Rattle.rules.specs.Edit.{edited, deallocating};
-ghost use Rattle.store.specs.EditPromises.{EditPromise, CutKnown, CutRegion, CutSlots};
+ghost use Rattle.store.specs.EditPromises.{EditPromise, CutKnown, CutSlots};
 use crate::bytes::zero_edges;
 use crate::edit_plans::plan_deallocate;
 use crate::geometry::Geometry;

@@ -7,7 +7,7 @@ ghost use Rattle.rules.specs.Store.{goodGeometry};
 ghost use Rattle.rules.specs.Edit.{slotCount, edited, writing};
 ghost use Rattle.store.specs.Lent.{geometryOf, after, before, tables};
 ghost use Rattle.store.specs.SlotBytes.{AllTouched};
-ghost use Rattle.store.specs.EditPromises.{EditPromise, WriteKnown, RegionKnown, SlotsKnown, Finished};
+ghost use Rattle.store.specs.EditPromises.{EditPromise, WriteKnown, SlotsKnown, Finished};
 use crate::bytes::write_slots;
 use crate::geometry::Geometry;
 use crate::plan::plan_write;

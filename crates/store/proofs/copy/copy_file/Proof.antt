@@ -1,4 +1,4 @@
-use mathlib.Core.Path.{sym}
+use mathlib.Core.Path.{refl, sym}
 use native.Mathlib.Omega.{arith}
 use Rattle.store.proofs.WriteEdit.{region-room, some-region, saved-room, saved-long, saved-slots}
 use Rattle.store.proofs.CopyEdit.{copy-empty}
@@ -32,7 +32,7 @@ array-borrow-prefix-saved c =
     let t = k .before in
     let s = t .before .before .before .before .before in
     let r = some-region (s .pre .known) (s .pre .fits) (t .if1 .left) in
-    saved-room r (k .slot-count .ensures) (region-room r .slots-most)
+    saved-room r (k .slot-count .ensures)
 
 slice-aggregate-copy-planned : tie.Need-slice-aggregate-copy-planned
 slice-aggregate-copy-planned c =
@@ -40,7 +40,7 @@ slice-aggregate-copy-planned c =
     let t = k .before in
     let s = t .before .before .before .before .before in
     let r = some-region (s .pre .known) (s .pre .fits) (t .if1 .left) in
-    sym (saved-long r (k .slot-count .ensures) _ (region-room r .slots-most))
+    sym (saved-long r (k .slot-count .ensures) _ refl)
 
 copy-planned-requires : tie.Need-copy-planned-requires
 copy-planned-requires c κs =
@@ -48,7 +48,7 @@ copy-planned-requires c κs =
     let t = k .before in
     let s = t .before .before .before .before .before in
     let r = some-region (s .pre .known) (s .pre .fits) (t .if1 .left) in
-    (saved-slots r (k .slot-count .ensures) _ (region-room r .slots-most), s .pre .source)
+    (saved-slots r (k .slot-count .ensures) _ refl, s .pre .source)
 
 same-length : tie.Need-same-length
 same-length c = search needs

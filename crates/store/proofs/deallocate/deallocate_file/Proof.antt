@@ -1,4 +1,4 @@
-use mathlib.Core.Path.{sym}
+use mathlib.Core.Path.{refl, sym}
 use native.Mathlib.Omega.{arith}
 use Rattle.store.proofs.WriteEdit.{region-room, saved-room, saved-long, saved-slots}
 use Rattle.store.proofs.CutEdit.{cut-empty, cut-region}
@@ -12,38 +12,38 @@ returns c = let s = c .before .before .before .before .before in cut-empty (s .p
 slot-count-requires : tie.Need-slot-count-requires
 slot-count-requires c κs =
     let s = c .before .before .before .before .before in
-    let r = cut-region (s .pre) (c .if1 .left) .region in
+    let r = cut-region (s .pre) (c .if1 .left) in
     (r .known .shaped .geometry, (r .some, r .fits))
 
 div-cut-range : tie.Need-div-cut-range
 div-cut-range c =
     let t = c .before .before .before .before .before in
     let s = t .before .before .before .before .before in
-    omega (arith, region-room (cut-region (s .pre) (t .if1 .left) .region))
+    omega (arith, region-room (cut-region (s .pre) (t .if1 .left)))
 
 array-borrow-prefix-saved : tie.Need-array-borrow-prefix-saved
 array-borrow-prefix-saved c =
     let k = c .before .before .before .before in
     let t = k .before in
     let s = t .before .before .before .before .before in
-    let r = cut-region (s .pre) (t .if1 .left) .region in
-    saved-room r (k .slot-count .ensures) (region-room r .slots-most)
+    let r = cut-region (s .pre) (t .if1 .left) in
+    saved-room r (k .slot-count .ensures)
 
 slice-aggregate-cut-range : tie.Need-slice-aggregate-cut-range
 slice-aggregate-cut-range c =
     let k = c .before .before .before .before .before in
     let t = k .before in
     let s = t .before .before .before .before .before in
-    let r = cut-region (s .pre) (t .if1 .left) .region in
-    sym (saved-long r (k .slot-count .ensures) _ (region-room r .slots-most))
+    let r = cut-region (s .pre) (t .if1 .left) in
+    sym (saved-long r (k .slot-count .ensures) _ refl)
 
 cut-range-requires : tie.Need-cut-range-requires
 cut-range-requires c κs =
     let k = c .before .before .before .before .before in
     let t = k .before in
     let s = t .before .before .before .before .before in
-    let r = cut-region (s .pre) (t .if1 .left) .region in
-    record { slots = saved-slots r (k .slot-count .ensures) _ (region-room r .slots-most); cut = s .pre .cut }
+    let r = cut-region (s .pre) (t .if1 .left) in
+    record { slots = saved-slots r (k .slot-count .ensures) _ refl; cut = s .pre .cut }
 
 same-length : tie.Need-same-length
 same-length c = search needs

@@ -1,4 +1,4 @@
-use mathlib.Core.Path.{sym}
+use mathlib.Core.Path.{refl, sym}
 use native.Mathlib.Omega.{arith}
 use Rattle.store.proofs.WriteEdit.{write-empty, region-room, some-region, saved-room, saved-long, saved-slots}
 use borrow.Author.Needs.{needs}
@@ -31,7 +31,7 @@ array-borrow-prefix-saved c =
     let t = k .before in
     let s = t .before .before .before .before .before .before in
     let r = some-region (s .pre .known) (s .pre .fits) (t .if1 .left) in
-    saved-room r (k .slot-count .ensures) (region-room r .slots-most)
+    saved-room r (k .slot-count .ensures)
 
 slice-aggregate-write-range : tie.Need-slice-aggregate-write-range
 slice-aggregate-write-range c =
@@ -39,7 +39,7 @@ slice-aggregate-write-range c =
     let t = k .before in
     let s = t .before .before .before .before .before .before in
     let r = some-region (s .pre .known) (s .pre .fits) (t .if1 .left) in
-    sym (saved-long r (k .slot-count .ensures) _ (region-room r .slots-most))
+    sym (saved-long r (k .slot-count .ensures) _ refl)
 
 write-range-requires : tie.Need-write-range-requires
 write-range-requires c κs =
@@ -47,7 +47,7 @@ write-range-requires c κs =
     let t = k .before in
     let s = t .before .before .before .before .before .before in
     let r = some-region (s .pre .known) (s .pre .fits) (t .if1 .left) in
-    saved-slots r (k .slot-count .ensures) _ (region-room r .slots-most)
+    saved-slots r (k .slot-count .ensures) _ refl
 
 same-length : tie.Need-same-length
 same-length c = search needs

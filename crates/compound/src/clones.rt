@@ -28,6 +28,7 @@ use crate::result::put_copied;
 use crate::stateid::read_stateid;
 use crate::stateid::zero_stateid;
 use store::Geometry;
+use store::Source;
 
 // How many bytes are meant: a count of 0 means to the source's end.
 fn source_count(size: u64, from: u64, n: u64) -> u64
@@ -169,18 +170,11 @@ fn copy_status(
     }
     let k = a.clone;
     let n = source_count(sizes[e], k.from, k.count) as usize;
-    if !store::copy_file(
-        g,
-        sizes,
-        words,
-        mem,
-        counts,
-        e,
-        f,
-        k.from as usize,
-        k.to as usize,
-        n,
-    ) {
+    let from = Source {
+        file: e,
+        off: k.from as usize,
+    };
+    if !store::copy_file(g, sizes, words, mem, counts, from, f, k.to as usize, n) {
         return Answer::NOSPC;
     }
     0
@@ -206,18 +200,11 @@ fn clone_status(
         return error;
     }
     let n = source_count(sizes[e], a.from, a.count) as usize;
-    if !store::clone_file(
-        g,
-        sizes,
-        words,
-        counts,
-        mem,
-        e,
-        f,
-        a.from as usize,
-        a.to as usize,
-        n,
-    ) {
+    let from = Source {
+        file: e,
+        off: a.from as usize,
+    };
+    if !store::clone_file(g, sizes, words, mem, counts, from, f, a.to as usize, n) {
         return Answer::NOSPC;
     }
     0

@@ -126,7 +126,7 @@ fn allocate_status(
     }
     let off = a.offset as usize;
     let n = a.length as usize;
-    if !store::allocate_file(g, sizes, words, counts, mem, f, off, n) {
+    if !store::allocate_file(g, sizes, words, mem, counts, f, off, n) {
         return Answer::NOSPC;
     }
     0

@@ -9,18 +9,18 @@ ghost use Rattle.store.specs.EditPromises.{EditPromise, SlotsKnown, Sour
 use crate::copy_bytes::copy_range;
 use crate::geometry::Geometry;
 use crate::plan::plan_write;
+use crate::source::Source;
 use crate::write::grow;
 use crate::write::slot_count;
 
-// After a plan that was done: the bytes of file s from soff on at the places from `off` up to `end`, in the slots from `first` on
+// After a plan that was done: the source's bytes at the places from `off` up to `end`, in the slots from `first` on
 // whose words went from `old` to `new`, and the size of file f.
 fn finish_copy(
     g: Geometry,
     sizes: &mut [u64],
     words: &[u32],
     mem: &mut [u8],
-    s: usize,
-    soff: usize,
+    from: Source,
     old: &[u32],
     new: &[u32],
     f: usize,
@@ -28,12 +28,12 @@ fn finish_copy(
     off: usize,
     end: usize,
 )
-    requires { ⌜ AllCopies (geometryOf g) (now words) (now mem) s soff (now old) (now new) first off end 4096 × (f < length (now sizes)) ⌝ }
+    requires { ⌜ AllCopies (geometryOf g) (now words) (now mem) (from .file) (from .off) (now old) (now new) first off end 4096 × (f < length (now sizes)) ⌝ }
     ensures { λ _. ⌜ Finished (geometryOf g)
-        (λ p. byteAt (geometryOf g) (before sizes words mem) s (soff + (p - off)))
+        (λ p. byteAt (geometryOf g) (before sizes words mem) (from .file) (from .off + (p - off)))
         first (now (old .entry)) (now (new .entry)) f off end (now (sizes .entry)) (now (mem .entry)) (now (sizes .exit)) (now (mem .exit)) ⌝ }
 {
-    copy_range(g, words, mem, s, soff, old, new, first, off, end);
+    copy_range(g, words, mem, from, old, new, first, off, end);
     grow(sizes, f, end);
 }
 
@@ -44,18 +44,17 @@ fn copy_planned(
     words: &mut [u32],
     mem: &mut [u8],
     counts: &mut [u32],
-    s: usize,
+    from: Source,
     f: usize,
-    soff: usize,
     first: usize,
     off: usize,
     n: usize,
     old: &mut [u32],
 ) -> bool
     requires { ⌜ SlotsKnown (geometryOf g) (tables sizes words mem) (now counts) f off (off + n) first (length (now old))
-        × SourceKnown (geometryOf g) (tables sizes words mem) s f soff n ⌝ }
+        × SourceKnown (geometryOf g) (tables sizes words mem) (from .file) f (from .off) n ⌝ }
     ensures { λ r. ⌜ EditPromise (geometryOf g) (before sizes words mem)
-        (edited (geometryOf g) (before sizes words mem) (copying f off (off + n) s soff))
+        (edited (geometryOf g) (before sizes words mem) (copying f off (off + n) (from .file) (from .off)))
         r (after sizes words mem) (now (counts .exit)) ⌝ }
 {
     let i = f * g.slots + first;
@@ -66,11 +65,11 @@ fn copy_planned(
     }
     let all = &words[..];
     let new = &all[i..to];
-    finish_copy(g, sizes, all, mem, s, soff, old, new, f, first, off, end);
+    finish_copy(g, sizes, all, mem, from, old, new, f, first, off, end);
     true
 }
 
-// Copies n bytes of file s from soff on to file f at `off`. Answers false, and changes nothing, exactly if the store would then
+// Copies n bytes from the source to file f at `off`. Answers false, and changes nothing, exactly if the store would then
 // need more blocks than there are. It owns the words to save and only lends them.
 pub fn copy_file(
     g: Geometry,
@@ -78,15 +77,14 @@ pub fn copy_file(
     words: &mut [u32],
     mem: &mut [u8],
     counts: &mut [u32],
-    s: usize,
+    from: Source,
     f: usize,
-    soff: usize,
     off: usize,
     n: usize,
 ) -> bool
-    requires { ⌜ CopyKnown (geometryOf g) (tables sizes words mem) (now counts) s f soff off n ⌝ }
+    requires { ⌜ CopyKnown (geometryOf g) (tables sizes words mem) (now counts) (from .file) f (from .off) off n ⌝ }
     ensures { λ r. ⌜ EditPromise (geometryOf g) (before sizes words mem)
-        (edited (geometryOf g) (before sizes words mem) (copying f off (off + n) s soff))
+        (edited (geometryOf g) (before sizes words mem) (copying f off (off + n) (from .file) (from .off)))
         r (after sizes words mem) (now (counts .exit)) ⌝ }
 {
     if n == 0 {
@@ -100,9 +98,8 @@ pub fn copy_file(
         words,
         mem,
         counts,
-        s,
+        from,
         f,
-        soff,
         off / g.block_size,
         off,
         n,

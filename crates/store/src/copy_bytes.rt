@@ -12,14 +12,14 @@ use crate::bytes::later;
 use crate::bytes::store_part;
 use crate::geometry::Geometry;
 use crate::read::read_bytes;
+use crate::source::Source;
 
-// Slot k's share of a COPY of file s from soff on to the places from `off` up to `end`.
+// Slot k's share of a COPY to the places from `off` up to `end`.
 fn copy_slot(
     g: Geometry,
     words: &[u32],
     mem: &mut [u8],
-    s: usize,
-    soff: usize,
+    from: Source,
     old: u32,
     new: u32,
     k: usize,
@@ -27,16 +27,23 @@ fn copy_slot(
     end: usize,
     page: &mut [u8],
 )
-    requires { ⌜ SlotCopy (geometryOf g) (now words) (now mem) s soff old new k off end (length (now page)) ⌝ }
+    requires { ⌜ SlotCopy (geometryOf g) (now words) (now mem) (from .file) (from .off) old new k off end (length (now page)) ⌝ }
     ensures { λ _. ⌜ ((sizes : List ℕ)
         → now (mem .exit) ≡ storeSlot (geometryOf g) (within off end)
-        (λ p. byteAt (geometryOf g) (record { sizes = sizes; words = now (words .entry); mem = now (mem .entry) }) s (soff + (p - off)))
+        (λ p. byteAt (geometryOf g) (record { sizes = sizes; words = now (words .entry); mem = now (mem .entry) }) (from .file) (from .off + (p - off)))
         old new (now (mem .entry)) k) ⌝ }
 {
     let p = k * g.block_size;
     let a = later(off, p);
     let n = earlier(end, p + g.block_size) - a;
-    read_bytes(g, words, mem, s, soff + (a - off), &mut page[..n]);
+    read_bytes(
+        g,
+        words,
+        mem,
+        from.file,
+        from.off + (a - off),
+        &mut page[..n],
+    );
     store_part(g, mem, old, new, a - p, &page[..n]);
 }
 
@@ -45,8 +52,7 @@ pub fn copy_slots(
     g: Geometry,
     words: &[u32],
     mem: &mut [u8],
-    s: usize,
-    soff: usize,
+    from: Source,
     old: &[u32],
     new: &[u32],
     first: usize,
@@ -54,10 +60,10 @@ pub fn copy_slots(
     end: usize,
     page: &mut [u8],
 )
-    requires { ⌜ AllCopies (geometryOf g) (now words) (now mem) s soff (now old) (now new) first off end (length (now page)) ⌝ }
+    requires { ⌜ AllCopies (geometryOf g) (now words) (now mem) (from .file) (from .off) (now old) (now new) first off end (length (now page)) ⌝ }
     ensures { λ _. ⌜ ((sizes : List ℕ)
         → now (mem .exit) ≡ storeSlots (geometryOf g) (within off end)
-        (λ p. byteAt (geometryOf g) (record { sizes = sizes; words = now (words .entry); mem = now (mem .entry) }) s (soff + (p - off)))
+        (λ p. byteAt (geometryOf g) (record { sizes = sizes; words = now (words .entry); mem = now (mem .entry) }) (from .file) (from .off + (p - off)))
         first (now (old .entry)) (now (new .entry)) (now (mem .entry)) 0 (length (now (old .entry)))) ⌝ }
 {
     let mut i = 0;
@@ -66,8 +72,7 @@ pub fn copy_slots(
             g,
             words,
             mem,
-            s,
-            soff,
+            from,
             old[i],
             new[i],
             first + i,
@@ -84,20 +89,19 @@ pub fn copy_range(
     g: Geometry,
     words: &[u32],
     mem: &mut [u8],
-    s: usize,
-    soff: usize,
+    from: Source,
     old: &[u32],
     new: &[u32],
     first: usize,
     off: usize,
     end: usize,
 )
-    requires { ⌜ AllCopies (geometryOf g) (now words) (now mem) s soff (now old) (now new) first off end 4096 ⌝ }
+    requires { ⌜ AllCopies (geometryOf g) (now words) (now mem) (from .file) (from .off) (now old) (now new) first off end 4096 ⌝ }
     ensures { λ _. ⌜ ((sizes : List ℕ)
         → now (mem .exit) ≡ storeSlots (geometryOf g) (within off end)
-        (λ p. byteAt (geometryOf g) (record { sizes = sizes; words = now (words .entry); mem = now (mem .entry) }) s (soff + (p - off)))
+        (λ p. byteAt (geometryOf g) (record { sizes = sizes; words = now (words .entry); mem = now (mem .entry) }) (from .file) (from .off + (p - off)))
         first (now (old .entry)) (now (new .entry)) (now (mem .entry)) 0 (length (now (old .entry)))) ⌝ }
 {
     let mut page = [0u8; 4096];
-    copy_slots(g, words, mem, s, soff, old, new, first, off, end, &mut page);
+    copy_slots(g, words, mem, from, old, new, first, off, end, &mut page);
 }

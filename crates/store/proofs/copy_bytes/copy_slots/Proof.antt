@@ -11,11 +11,11 @@ use Rattle.store.proofs.copy_bytes.copy_slots.Statement.{statement}
 use Rattle.store.proofs.copy_bytes.copy_slots.Tie as tie
 
 abbrev Inv-loop : tie.InvT-loop
-Inv-loop g words mem₀ s soff old new first off end page₀ i₀ mem page i =
-    (length page ≡ length page₀) × Copying (geometryOf g) words s soff old new first off end mem₀ mem i
+Inv-loop g words mem₀ from old new first off end page₀ i₀ mem page i =
+    (length page ≡ length page₀) × Copying (geometryOf g) words (from .file) (from .off) old new first off end mem₀ mem i
 
 abbrev μ-loop : tie.MeasureT-loop
-μ-loop g words mem₀ s soff old new first off end page₀ i₀ mem page i = length old - i
+μ-loop g words mem₀ from old new first off end page₀ i₀ mem page i = length old - i
 
 loop-holds : tie.Need-loop-holds Inv-loop μ-loop
 loop-holds c = (refl, copying-start _ _ _ _ _ _ _ _ _ _)
@@ -56,7 +56,7 @@ loop-again c =
     let w = c .before .before .before .before in
     let l = w .before .before .before .before .before .before in
     let s = l .before .before .before .before .before .before in (
-      w .copy-slot .kept .1 .1 .1 .1 .1 .1 .1 .1 .1 .1 .0 ∙ l .loop .inv .0,
+      w .copy-slot .kept .1 .1 .1 .1 .1 .1 .1 .1 .1 .0 ∙ l .loop .inv .0,
       copying-turn _ _ _ _ _ _ _ _ _ _ _ (s .pre) _ _ (l .loop .inv .1) (omega arith) _ (w .copy-slot .kept .1 .1 .0) (w .copy-slot .ensures),
     )
 

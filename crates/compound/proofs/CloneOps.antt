@@ -18,8 +18,7 @@ use Rattle.rules.specs.Run.{overlap, uneven, sourceCount, State, noFile, readSt
 use Rattle.rules.proofs.GeometryLaws.{good, lengths}
 use Rattle.rules.proofs.BoolLaws.{or-inl, or-inr}
 use Rattle.rules.proofs.ErrorLaws.{copy-clear, clone-clear}
-use Rattle.store.specs.Tables.{Shaped}
-use Rattle.store.specs.Plan.{TableTrue}
+use Rattle.tables.specs.Tables.{Shaped, TableTrue}
 use Rattle.store.specs.EditPromises.{EditKnown, EditPromise, CopyKnown, CloneKnown}
 use Rattle.compound.specs.declared.answer.Handle.{Handle}
 use Rattle.compound.specs.declared.answer.Answer.{Answer}

@@ -19,7 +19,7 @@ use Rattle.rules.specs.Store.{Geometry, Store, need}
 use Rattle.rules.specs.Operation.{STALE, BADHANDLE, NOFILEHANDLE, Op, GETFH, PUTFH, Item, op, bad, opNumber, itemAt}
 use Rattle.rules.specs.Run.{State, noFile, fileOf, failed, errors, effect, body, perform, config, does, countedAfter}
 use Rattle.rules.specs.Calls.{placeAfter}
-use Rattle.store.specs.Plan.{TableTrue}
+use Rattle.tables.specs.Tables.{TableTrue}
 use Rattle.rules.proofs.GeometryLaws.{good, block-pos}
 use Rattle.rules.proofs.SoundLaws.{sound-facts}
 use Rattle.compound.specs.declared.answer.Handle.{Handle}

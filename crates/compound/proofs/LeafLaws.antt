@@ -16,7 +16,7 @@ use Rattle.xdr.proofs.BytesLaws.{length-splice, written-then}
 use Rattle.rules.specs.Store.{Geometry, Store}
 use Rattle.rules.specs.Operation.{bad}
 use Rattle.rules.specs.Run.{overlap, uneven, sameBytes, zeroStateid, readStateid, failed}
-use Rattle.store.specs.Plan.{TableTrue}
+use Rattle.tables.specs.Tables.{TableTrue}
 use Rattle.rules.proofs.BoolLaws.{and-both}
 use Rattle.compound.specs.declared.run.Progress.{Progress}
 use Rattle.compound.specs.Runner.{fileIn, stateOf, Turned}

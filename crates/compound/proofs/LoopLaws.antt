@@ -15,7 +15,7 @@ use Rattle.rules.specs.Store.{Geometry, goodGeometry, Store, sound}
 use Rattle.rules.specs.Operation.{Op, Item, op, bad, itemAt, items}
 use Rattle.rules.specs.Run.{State, Event, failed, perform, reached, config}
 use Rattle.rules.specs.Calls.{resultBytes, placeAfter, lastPlace, lastOf, fresh}
-use Rattle.store.specs.Plan.{TableTrue}
+use Rattle.tables.specs.Tables.{TableTrue}
 use Rattle.rules.proofs.GeometryLaws.{Good, good, block-pos}
 use Rattle.rules.proofs.SoundLaws.{sound-facts, lengths-test, sound-test}
 use Rattle.rules.proofs.OperationLaws.{Ready, performed}

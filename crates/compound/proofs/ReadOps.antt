@@ -18,9 +18,8 @@ use Rattle.rules.specs.Store.{Geometry, Store, sizeOf, bytesFrom, sound}
 use Rattle.rules.specs.Read.{granted, readPieces, seekPlace}
 use Rattle.rules.specs.Operation.{pieceBytes, NXIO, NOFILEHANDLE, BAD-STATEID, UNION-NOTSUPP, Op, READ, READ-PLUS, SEEK, opNumber, readReply, readPlusReply, seekReply}
 use Rattle.rules.specs.Run.{State, noFile, fileOf, readStateid, errors, effect, body, perform, config, does, countedAfter}
-use Rattle.store.specs.Plan.{TableTrue}
+use Rattle.tables.specs.Tables.{TableTrue, Shaped}
 use Rattle.store.specs.Readable.{Placed, Readable, PiecesFit, PiecesPut, piecesTo, piecesSize}
-use Rattle.store.specs.Tables.{Shaped}
 use Rattle.rules.proofs.SoundStore.{Sound}
 use Rattle.rules.proofs.GeometryLaws.{Good, good, lengths}
 use Rattle.rules.proofs.SoundLaws.{sound-facts}

@@ -16,7 +16,7 @@ use Rattle.rules.specs.Store.{Geometry, Store, need, fitsPool}
 use Rattle.rules.specs.Operation.{NOSPC, Op, op, opNumber}
 use Rattle.rules.specs.Run.{State, Event, failed, errors, effect, body, countedAfter, perform, config}
 use Rattle.rules.specs.Calls.{itemNumber, resultBytes}
-use Rattle.store.specs.Plan.{TableTrue}
+use Rattle.tables.specs.Tables.{TableTrue}
 use Rattle.store.specs.EditPromises.{EditKnown, EditPromise, judged}
 use Rattle.compound.specs.declared.answer.Handle.{Handle}
 use Rattle.compound.specs.declared.answer.Answer.{Answer}

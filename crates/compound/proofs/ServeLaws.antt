@@ -17,7 +17,7 @@ use Rattle.rules.specs.Store.{Geometry, goodGeometry, Store, goodLengths, sound
 use Rattle.rules.specs.Operation.{MINOR-VERS-MISMATCH, TOO-MANY-OPS, items, Header, header}
 use Rattle.rules.specs.Run.{reached, config}
 use Rattle.rules.specs.Calls.{storeRefusal, resultBytes, replyHead, replyBytes, lastStatus, fresh, headerStatus, compound, Outcome, Gives, refuse, served, refusal, Call, answer, Contract}
-use Rattle.store.specs.Survey.{TableReady, Surveyed}
+use Rattle.tables.specs.Survey.{TableReady, Surveyed}
 use Rattle.rules.proofs.GeometryLaws.{good, block-pos}
 use Rattle.rules.proofs.SoundLaws.{sound-facts}
 use Rattle.rules.proofs.FirstLaws.{all-clear}

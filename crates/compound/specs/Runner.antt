@@ -12,9 +12,8 @@ use Rattle.rules.specs.Store.{Geometry, Store, sound}
 use Rattle.rules.specs.Operation.{op, bad, itemAt, Header}
 use Rattle.rules.specs.Run.{State, Event, failed, perform, config}
 use Rattle.rules.specs.Calls.{resultBytes, placeAfter, lastPlace, lastStatus, lastStore, Call, Outcome}
-use Rattle.store.specs.Lent.{Held}
-use Rattle.store.specs.Tables.{Shaped}
-use Rattle.store.specs.Plan.{TableTrue}
+use Rattle.tables.specs.Lent.{Held}
+use Rattle.tables.specs.Tables.{Shaped, TableTrue}
 use Rattle.compound.specs.declared.answer.Handle.{Handle}
 use Rattle.compound.specs.declared.answer.Answer.{Answer}
 use Rattle.compound.specs.declared.run.Progress.{Progress}

@@ -10,7 +10,7 @@ ghost use Rattle.xdr.specs.Bytes.{partOf};
 ghost use Rattle.rules.specs.Lists.{first};
 ghost use Rattle.rules.specs.Store.{goodGeometry, Store};
 ghost use Rattle.rules.specs.Run.{State, zeroStateid, readStateid, errors, perform, overlap, uneven, config};
-ghost use Rattle.store.specs.Lent.{geometryOf, after, before, tables};
+ghost use Rattle.tables.specs.Lent.{geometryOf, after, before, tables};
 ghost use Rattle.store.specs.EditPromises.{EditKnown};
 ghost use Rattle.compound.specs.Decoded.{meaning};
 ghost use Rattle.compound.specs.Runner.{stateOf, Runs, Done, Answered};
@@ -27,8 +27,8 @@ use crate::region::too_far;
 use crate::result::put_copied;
 use crate::stateid::read_stateid;
 use crate::stateid::zero_stateid;
-use store::Geometry;
 use store::Source;
+use tables::Geometry;
 
 // How many bytes are meant: a count of 0 means to the source's end.
 fn source_count(size: u64, from: u64, n: u64) -> u64

@@ -8,7 +8,7 @@ ghost use lib.ListN.{length};
 ghost use Rattle.rules.specs.Lists.{first};
 ghost use Rattle.rules.specs.Store.{goodGeometry};
 ghost use Rattle.rules.specs.Run.{State, noFile, errors, perform, config};
-ghost use Rattle.store.specs.Lent.{geometryOf, after, before, tables};
+ghost use Rattle.tables.specs.Lent.{geometryOf, after, before, tables};
 ghost use Rattle.store.specs.EditPromises.{EditKnown};
 ghost use Rattle.compound.specs.Decoded.{meaning};
 ghost use Rattle.compound.specs.Runner.{stateOf, Runs, Done, Answered};
@@ -23,7 +23,7 @@ use crate::region::too_big;
 use crate::region::too_far;
 use crate::result::put_written;
 use crate::stateid::zero_stateid;
-use store::Geometry;
+use tables::Geometry;
 
 // The first error of a WRITE where a file is current, NOSPC aside; 0 if there is none.
 fn write_error(g: Geometry, s: &[u8], a: WriteArgs) -> u32

@@ -7,13 +7,13 @@ ghost use lib.ListN.{length, getD};
 ghost use lib.Dec.{leb};
 ghost use Rattle.xdr.specs.Bytes.{Written};
 ghost use Rattle.rules.specs.Store as G;
-ghost use Rattle.store.specs.Lent.{geometryOf, before, tables};
+ghost use Rattle.tables.specs.Lent.{geometryOf, before, tables};
 ghost use Rattle.rules.specs.Lists.{first};
 ghost use Rattle.rules.specs.Store.{Store};
 ghost use Rattle.rules.specs.Read.{granted};
 ghost use Rattle.rules.specs.Operation.{readReply, readPlusReply, seekReply};
 ghost use Rattle.rules.specs.Run.{State, errors, perform, config};
-ghost use Rattle.store.specs.Plan.{TableTrue};
+ghost use Rattle.tables.specs.Tables.{TableTrue};
 ghost use Rattle.compound.specs.Decoded.{meaning};
 ghost use Rattle.compound.specs.Runner.{stateOf, Known, Shows, Answered};
 use crate::answer::Answer;
@@ -23,7 +23,7 @@ use crate::answer::without_body;
 use crate::operation::Operation;
 use crate::operation::ReadArgs;
 use crate::stateid::read_stateid;
-use store::Geometry;
+use tables::Geometry;
 
 // The bytes granted of n asked for.
 fn grant(n: u32) -> u64

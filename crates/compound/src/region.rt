@@ -4,8 +4,8 @@ ghost use mathlib.Core.Bool.{true, _&&_};
 ghost use Prim.Native.Nat.{_+_, _*_, _^_};
 ghost use lib.Dec.{leb, ltb};
 ghost use Rattle.rules.specs.Store.{goodGeometry};
-ghost use Rattle.store.specs.Lent.{geometryOf};
-use store::Geometry;
+ghost use Rattle.tables.specs.Lent.{geometryOf};
+use tables::Geometry;
 
 // Whether the sum of offset and length is above the highest 64-bit number.
 pub fn too_far(off: u64, n: u64) -> bool

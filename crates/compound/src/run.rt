@@ -2,12 +2,12 @@
 ghost use mathlib.Core.List.{List};
 ghost use Prim.Native.Nat.{ℕ, _+_, _<_, _≤_};
 ghost use lib.ListN.{length};
-ghost use Rattle.store.specs.Lent.{geometryOf, after, before, tables};
+ghost use Rattle.tables.specs.Lent.{geometryOf, after, before, tables};
 ghost use Rattle.rules.specs.Store.{Store};
 ghost use Rattle.rules.specs.Operation.{bad, items};
 ghost use Rattle.rules.specs.Run.{failed, perform, reached, config};
 ghost use Rattle.rules.specs.Calls.{fresh};
-ghost use Rattle.store.specs.Plan.{TableTrue};
+ghost use Rattle.tables.specs.Tables.{TableTrue};
 ghost use Rattle.compound.specs.Decoded.{meaning};
 ghost use Rattle.compound.specs.Runner.{stateOf, Runs, Answered, eventAt, Turned, RunsAll, RanAll};
 use crate::answer::Answer;
@@ -20,7 +20,7 @@ use crate::handles;
 use crate::operation::Item;
 use crate::operation::Operation;
 use crate::reads;
-use store::Geometry;
+use tables::Geometry;
 use xdr::Cursor;
 
 // Where a run stands: the last status, the operations reached, the next byte to read and to write, and the handles.

@@ -7,20 +7,20 @@ ghost use Prim.Native.Nat.{_+_, _≤_};
 ghost use lib.ListN.{length};
 ghost use Rattle.xdr.specs.Bytes.{partOf, Written};
 ghost use Rattle.xdr.specs.Encode.{opaqueSize};
-ghost use Rattle.store.specs.Lent.{geometryOf, after, before, tables};
+ghost use Rattle.tables.specs.Lent.{geometryOf, after, before, tables};
 ghost use Rattle.rules.specs.Lists.{first};
 ghost use Rattle.rules.specs.Operation.{MINOR-VERS-MISMATCH, TOO-MANY-OPS};
 ghost use Rattle.rules.specs.Calls.{compound, replyHead, Gives, served, Contract};
 ghost use Rattle.rules.specs.Run.{config};
-ghost use Rattle.store.specs.Tables.{Shaped};
-ghost use Rattle.store.specs.Survey.{TableFits, TableReady};
+ghost use Rattle.tables.specs.Tables.{Shaped};
+ghost use Rattle.tables.specs.Survey.{TableFits, TableReady};
 ghost use Rattle.compound.specs.Runner.{Serves, headerOf, call, outcome};
 use crate::answer::Answer;
 use crate::decode::HeaderRead;
 use crate::decode::header;
 use crate::operation::Operation;
 use crate::run::run;
-use store::Geometry;
+use tables::Geometry;
 use xdr::Cursor;
 use xdr::Span;
 
@@ -131,7 +131,7 @@ fn serve_counted(
     ensures { λ r. ⌜ Contract (call (geometryOf g) v s reply) (before sizes words mem)
         (outcome r reply (after sizes words mem)) ⌝ }
 {
-    if store::survey_tables(g, sizes, words, mem, counts).number != 0 {
+    if tables::survey_tables(g, sizes, words, mem, counts).number != 0 {
         return Served::refused(3);
     }
     if Served::MAX_REQUEST < s.len() {
@@ -199,7 +199,7 @@ pub fn serve(
     if !g.good() {
         return Served::refused(1);
     }
-    if !store::good_lengths(g, sizes, words, mem) {
+    if !tables::good_lengths(g, sizes, words, mem) {
         return Served::refused(2);
     }
     if v.len() != Served::VERIFIER {

@@ -9,7 +9,7 @@ ghost use lib.ListN.{length};
 use frame::Request;
 use libc::STDIN_FILENO;
 use libc::STDOUT_FILENO;
-use store::Geometry;
+use tables::Geometry;
 use xdr::Cursor;
 use xdr::Word;
 
@@ -34,7 +34,7 @@ fn say_front(text: &[u8], n: usize) {
 }
 
 fn say_counts(g: Geometry, sizes: &[u64], words: &[u32], mem: &[u8]) {
-    let c = store::count_blocks(g, sizes, words, mem);
+    let c = tables::count_blocks(g, sizes, words, mem);
     say(b" ");
     say_number(c.used as u64);
     say(b" ");
@@ -111,7 +111,7 @@ fn serve(g: Geometry, sizes: &mut [u64], words: &mut [u32], mem: &mut [u8], line
 
 // Makes an empty store. Answers whether it is made.
 fn make(g: Geometry, sizes: &mut [u64], words: &mut [u32], mem: &mut [u8], line: &[u8]) -> bool {
-    let number = store::make_empty(g, sizes, words, mem);
+    let number = tables::make_empty(g, sizes, words, mem);
     if number != 0 {
         say(b"-");
         say_number(number as u64);

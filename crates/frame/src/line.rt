@@ -2,7 +2,7 @@
 ghost use mathlib.Core.Path.{_≡_};
 ghost use Prim.Native.Nat.{_≤_};
 ghost use lib.ListN.{length, replicate};
-ghost use Rattle.store.specs.Lent.{geometryOf, after, before};
+ghost use Rattle.tables.specs.Lent.{geometryOf, after, before};
 ghost use Rattle.rules.specs.Calls.{Contract};
 ghost use Rattle.rules.specs.Line.{frameGeometry, frameCall, answerLine, answerRequest};
 ghost use Rattle.frame.specs.LineCall.{lineInto, LinePromise};
@@ -11,7 +11,7 @@ use crate::hex::put_hex;
 use crate::hex::put_refusal;
 use crate::hex::request_bytes;
 use compound::Served;
-use store::Geometry;
+use tables::Geometry;
 
 // Room for every answer's line.
 pub const MIN_OUT: usize = 65536;

@@ -16,8 +16,7 @@ use Rattle.rules.specs.Lists.{tabulate, each}
 use Rattle.rules.specs.Store.{Geometry, isHole, slotByte}
 use Rattle.rules.specs.Edit.{owned, slotBytes, overlay, storeSlot}
 use Rattle.rules.proofs.EditSteps.{own, ownUnless, storeAt, storeUnless}
-use Rattle.rules.proofs.PlanLaws.{InPool}
-use Rattle.rules.proofs.PlanLaws.{each-ext, OwnedSlot, own-slot, two-holders, ownUnless-sameR}
+use Rattle.rules.proofs.PlanLaws.{InPool, each-ext, OwnedSlot, own-slot, two-holders, ownUnless-sameR}
 
 -- ---- lists
 

@@ -1,10 +1,10 @@
 // The calls for a front end: server.h has their C declarations. Each hands its arguments to the call below it.
 ghost use mathlib.Core.Path.{_≡_};
-ghost use Rattle.store.specs.Lent.{geometryOf, after, before};
+ghost use Rattle.tables.specs.Lent.{geometryOf, after, before};
 ghost use Rattle.rules.specs.Run.{config};
 ghost use Rattle.rules.specs.Calls.{MakePromise, storeRefusal};
 ghost use Rattle.server.specs.Exports.{CountsPromise, ServePromise};
-use store::Geometry;
+use tables::Geometry;
 
 fn geometry(files: u64, slots: u64, blocks: u64, block_size: u64) -> Geometry
     ensures { λ g. ⌜ geometryOf g ≡ record { F = files; S = slots; N = blocks; B = «block_size» } ⌝ }
@@ -32,7 +32,7 @@ pub extern "C" fn store_make_empty(
         (before sizes words mem) r
         (after sizes words mem) ⌝ }
 {
-    store::make_empty(
+    tables::make_empty(
         geometry(files, slots, blocks, block_size),
         sizes,
         words,
@@ -54,7 +54,7 @@ pub extern "C" fn store_soundness(
     ensures { λ r. ⌜ r ≡ storeRefusal (record { F = files; S = slots; N = blocks; B = «block_size» })
         (before sizes words mem) ⌝ }
 {
-    store::soundness(
+    tables::soundness(
         geometry(files, slots, blocks, block_size),
         sizes,
         words,
@@ -77,7 +77,7 @@ pub extern "C" fn store_count_blocks(
     ensures { λ r. ⌜ CountsPromise (record { F = files; S = slots; N = blocks; B = «block_size» })
         (before sizes words mem) r (now (counts .exit)) ⌝ }
 {
-    let c = store::count_blocks(
+    let c = tables::count_blocks(
         geometry(files, slots, blocks, block_size),
         sizes,
         words,

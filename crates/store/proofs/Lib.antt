@@ -1,10 +1,4 @@
 pub mod PartLaws
-pub mod CallLaws
-pub mod SlotLaws
-pub mod TallyLaws
-pub mod WordLaws
-pub mod FileTests
-pub mod SurveyLaws
 pub mod RangeLaws
 pub mod OwnLaws
 pub mod StoreLaws

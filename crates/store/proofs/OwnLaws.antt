@@ -17,11 +17,11 @@ use Rattle.rules.proofs.EditSteps.{own, ownUnless, planWrite}
 use Rattle.rules.proofs.CountLaws.{sumTo-add, sumTo-point, sumTo-cut, sumTo-ge}
 use Rattle.rules.proofs.NeedLaws.{lowestFree-least}
 use Rattle.rules.proofs.PlanLaws.{each-sameR, ownUnless-sameR, own-slot, plan-used, InPool}
-use Rattle.store.specs.Tally.{takesBy, firstZero}
-use Rattle.store.specs.Plan.{TableTrue, Stored}
+use Rattle.tables.specs.Tally.{takesBy, firstZero}
+use Rattle.tables.specs.Tables.{TableTrue, Stored}
 use Rattle.store.specs.Own.{NoneFree, SlotOwned, RangeOwned}
 use Rattle.store.proofs.RangeLaws.{each-shift}
-use Rattle.store.proofs.TallyLaws.{takes-same, tallied-free, tallied-full}
+use Rattle.tables.proofs.TallyLaws.{takes-same, tallied-free, tallied-full}
 
 -- ---- the lowest free block's number is at most the number of slots
 

@@ -16,7 +16,7 @@ use Rattle.rules.specs.Edit.{firstSlot, slotCount, givesBack}
 use Rattle.rules.proofs.EditSteps.{reserve, planAllocate, share, planClone, giveBack, planGiveBack}
 use Rattle.rules.proofs.GeometryLaws.{good, file-most}
 use Rattle.rules.proofs.SlotByteLaws.{Local, plan-before, plan-after}
-use Rattle.store.specs.Plan.{TableTrue, Stored}
+use Rattle.tables.specs.Tables.{TableTrue, Stored}
 use Rattle.store.specs.Ranges.{RangeDone}
 
 -- ---- one slot

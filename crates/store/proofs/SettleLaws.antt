@@ -16,7 +16,8 @@ use Rattle.rules.specs.Edit.{firstSlot, slotCount, givesBack}
 use Rattle.rules.proofs.EditSteps.{own, ownUnless, giveBack, skips, planGiveBack, planDeallocate}
 use Rattle.rules.proofs.PlanLaws.{each-ext, InPool}
 use Rattle.rules.proofs.SlotByteLaws.{Local, own-local}
-use Rattle.store.specs.Plan.{TableTrue, Planned}
+use Rattle.tables.specs.Tables.{TableTrue}
+use Rattle.store.specs.Plan.{Planned}
 use Rattle.store.specs.Ranges.{RangeDone}
 use Rattle.store.specs.Own.{Undone, SlotOwned, RangeOwned, skipsBy}
 use Rattle.store.proofs.RangeLaws.{range-outside}

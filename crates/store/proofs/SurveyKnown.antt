@@ -6,13 +6,12 @@ use mathlib.Core.List.{List}
 use native.Mathlib.Omega.{arith}
 use lib.ListN.{length}
 use Rattle.rules.specs.Store.{Geometry, Store, sound}
-use Rattle.store.specs.Survey.{Surveyed}
-use Rattle.store.specs.Plan.{TableTrue}
-use Rattle.store.specs.Tables.{Shaped, Tallied}
+use Rattle.tables.specs.Survey.{Surveyed}
+use Rattle.tables.specs.Tables.{TableTrue, Shaped, Tallied}
 use Rattle.store.specs.EditPromises.{EditKnown}
 use Rattle.rules.proofs.GeometryLaws.{good, block-pos, slots-all, lengths}
 use Rattle.rules.proofs.SoundLaws.{sound-facts}
-use Rattle.store.proofs.SlotLaws.{number-shaped, number-sound}
+use Rattle.tables.proofs.SlotLaws.{number-shaped, number-sound}
 
 -- the words of a sound store, with a true table of one number for each block
 pub sound-counted : (g : Geometry) (st : Store) (counts : List ℕ) → Shaped g st → sound g st ≡ true → Tallied (st .words) counts → length counts ≡ g .N

@@ -18,7 +18,8 @@ use Rattle.rules.proofs.PlanLaws.{each-sameR, own-sameR, InPool}
 use Rattle.rules.proofs.SoundStore.{Sound, first-before, slots-fit}
 use Rattle.rules.proofs.EditForms.{write-is}
 use Rattle.rules.proofs.SoundLaws.{sound-facts}
-use Rattle.store.specs.Plan.{TableTrue, Planned}
+use Rattle.tables.specs.Tables.{TableTrue}
+use Rattle.store.specs.Plan.{Planned}
 use Rattle.store.specs.Own.{WritePlanned}
 use Rattle.store.specs.SlotBytes.{AllTouched, storeSlots}
 use Rattle.store.specs.EditPromises.{EditKnown, EditPromise, RegionKnown, SlotsKnown, Finished}

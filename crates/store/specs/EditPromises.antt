@@ -7,8 +7,7 @@ use mathlib.Core.Logic.{_≢_}
 use lib.ListN.{length, getD, set}
 use Rattle.rules.specs.Store.{Geometry, Store, sizeOf, sound, fitsPool}
 use Rattle.rules.specs.Edit.{within, firstSlot, slotCount}
-use Rattle.store.specs.Tables.{Shaped}
-use Rattle.store.specs.Plan.{TableTrue}
+use Rattle.tables.specs.Tables.{Shaped, TableTrue}
 use Rattle.store.specs.SlotBytes.{storeSlots}
 
 -- a sound store with its table of holders, one number for each block, and a file

@@ -1,10 +1,7 @@
-pub mod Lent
-pub mod Tables
-pub mod Tally
 pub mod Plan
 pub mod Ranges
 pub mod Own
 pub mod SlotBytes
 pub mod Readable
-pub mod Survey
 pub mod EditPromises
+pub mod Edits

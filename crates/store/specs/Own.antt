@@ -9,7 +9,8 @@ use Rattle.rules.specs.Lists.{each}
 use Rattle.rules.specs.Store.{Geometry, isHole, holeOrShared, lowestFree}
 use Rattle.rules.specs.Edit.{owned, givesBack}
 use Rattle.rules.proofs.EditSteps.{own, ownUnless, giveBack}
-use Rattle.store.specs.Plan.{TableTrue, Planned}
+use Rattle.tables.specs.Tables.{TableTrue}
+use Rattle.store.specs.Plan.{Planned}
 
 -- slot i, which is not skipped, takes a block, and none of n is free
 pub record NoneFree (skip : Bool) (ws : List ℕ) (i n : ℕ) : Type 0 where

@@ -1,12 +1,12 @@
 // ALLOCATE: the plan of its slots, and where the plan fits the pool the size. No byte of memory changes.
 ghost use Prim.Native.Nat.{_+_};
-ghost use Rattle.store.specs.Lent.{geometryOf, before, tables};
+ghost use Rattle.tables.specs.Lent.{geometryOf, before, tables};
 ghost use Rattle.rules.specs.Edit.{edited, allocating};
 ghost use Rattle.store.specs.EditPromises.{EditPromise, RegionKnown};
 use crate::edit_plans::plan_allocate;
-use crate::geometry::Geometry;
 use crate::write::grow;
 use crate::write::slot_count;
+use tables::Geometry;
 
 // Reserves the slots of the n bytes of file f from `off` on. Answers false, and changes nothing, exactly if the store would then
 // need more blocks than there are.

@@ -3,11 +3,11 @@ ghost use mathlib.Core.Path.{_≡_};
 ghost use Prim.Native.Nat.{pred, max, min, _+_, _-_, _*_, _/_, _^_, _<_, _≤_};
 ghost use lib.ListN.{length, getD, take, drop, replicate};
 ghost use Rattle.xdr.specs.Bytes.{splice};
-ghost use Rattle.store.specs.Lent.{geometryOf};
+ghost use Rattle.tables.specs.Lent.{geometryOf};
 ghost use Rattle.rules.specs.Edit.{within, slotBytes, storeSlot};
 ghost use Rattle.store.specs.SlotBytes.{Starts, Backed, Touched, AllTouched, storeSlots, zeroEdge, Edge, AllEdges, zeroSlots};
-use crate::geometry::Geometry;
 use crate::ranges::slot_stays;
+use tables::Geometry;
 
 // The bytes at `from` over those at `to`, through `page`, as many as it has.
 fn copy_through(mem: &mut [u8], from: usize, to: usize, page: &mut [u8])

@@ -1,12 +1,12 @@
 // CLONE: the plan of the target's slots, and where the plan fits the pool the size. No byte of memory changes.
 ghost use Prim.Native.Nat.{_+_};
-ghost use Rattle.store.specs.Lent.{geometryOf, before, tables};
+ghost use Rattle.tables.specs.Lent.{geometryOf, before, tables};
 ghost use Rattle.rules.specs.Edit.{edited, cloning};
 ghost use Rattle.store.specs.EditPromises.{EditPromise, CloneKnown};
+use crate::edit::Source;
 use crate::edit_plans::plan_clone;
-use crate::geometry::Geometry;
-use crate::source::Source;
 use crate::write::grow;
+use tables::Geometry;
 
 // Lets file f at `off` share the blocks of the source's n bytes. Answers false, and changes nothing, exactly if the
 // store would then need more blocks than there are.

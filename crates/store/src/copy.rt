@@ -1,17 +1,17 @@
 // COPY: as WRITE, with the bytes of another file.
 ghost use Prim.Native.Nat.{_+_, _-_, _<_};
 ghost use lib.ListN.{length};
-ghost use Rattle.store.specs.Lent.{geometryOf, after, before, tables};
+ghost use Rattle.tables.specs.Lent.{geometryOf, after, before, tables};
 ghost use Rattle.rules.specs.Store.{byteAt};
 ghost use Rattle.rules.specs.Edit.{edited, copying};
 ghost use Rattle.store.specs.SlotBytes.{AllCopies};
 ghost use Rattle.store.specs.EditPromises.{EditPromise, SlotsKnown, SourceKnown, CopyKnown, Finished};
 use crate::copy_bytes::copy_range;
-use crate::geometry::Geometry;
+use crate::edit::Source;
 use crate::plan::plan_write;
-use crate::source::Source;
 use crate::write::grow;
 use crate::write::slot_count;
+use tables::Geometry;
 
 // After a plan that was done: the source's bytes at the places from `off` up to `end`, in the slots from `first` on
 // whose words went from `old` to `new`, and the size of file f.

@@ -3,16 +3,16 @@ ghost use mathlib.Core.Path.{_≡_};
 ghost use mathlib.Core.List.{List};
 ghost use Prim.Native.Nat.{ℕ, _+_, _-_};
 ghost use lib.ListN.{length};
-ghost use Rattle.store.specs.Lent.{geometryOf};
+ghost use Rattle.tables.specs.Lent.{geometryOf};
 ghost use Rattle.rules.specs.Store.{byteAt};
 ghost use Rattle.rules.specs.Edit.{within, storeSlot};
 ghost use Rattle.store.specs.SlotBytes.{SlotCopy, AllCopies, storeSlots};
 use crate::bytes::earlier;
 use crate::bytes::later;
 use crate::bytes::store_part;
-use crate::geometry::Geometry;
+use crate::edit::Source;
 use crate::read::read_bytes;
-use crate::source::Source;
+use tables::Geometry;
 
 // Slot k's share of a COPY to the places from `off` up to `end`.
 fn copy_slot(

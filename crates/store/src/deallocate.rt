@@ -1,12 +1,12 @@
 // DEALLOCATE: the plan of its slots, and where the plan fits the pool the bytes. The size stays.
 ghost use lib.ListN.{length};
-ghost use Rattle.store.specs.Lent.{geometryOf, before, tables};
+ghost use Rattle.tables.specs.Lent.{geometryOf, before, tables};
 ghost use Rattle.rules.specs.Edit.{edited, deallocating};
 ghost use Rattle.store.specs.EditPromises.{EditPromise, CutKnown, CutSlots};
 use crate::bytes::zero_edges;
 use crate::edit_plans::plan_deallocate;
-use crate::geometry::Geometry;
 use crate::write::slot_count;
+use tables::Geometry;
 
 // A DEALLOCATE in the slots from `first` on, as many as `old` has words to save.
 fn cut_range(

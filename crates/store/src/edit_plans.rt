@@ -7,10 +7,10 @@ ghost use Rattle.rules.specs.Lists.{each};
 ghost use Rattle.rules.specs.Store.{goodGeometry, isHole};
 ghost use Rattle.rules.specs.Edit.{givesBack};
 ghost use Rattle.rules.proofs.EditSteps.{reserve, share};
-ghost use Rattle.store.specs.Lent.{geometryOf};
-ghost use Rattle.store.specs.Plan.{TableTrue, Planned};
+ghost use Rattle.tables.specs.Lent.{geometryOf};
+ghost use Rattle.tables.specs.Tables.{TableTrue};
+ghost use Rattle.store.specs.Plan.{Planned};
 ghost use Rattle.store.specs.Own.{SlotOwned, RangeOwned, skipsBy, DeallocatePlanned};
-use crate::geometry::Geometry;
 use crate::plan::own_slot;
 use crate::plan::save_words;
 use crate::plan::settle;
@@ -19,6 +19,7 @@ use crate::ranges::give_back_range;
 use crate::ranges::reserve_range;
 use crate::ranges::share_range;
 use crate::ranges::slot_stays;
+use tables::Geometry;
 
 // Plans an ALLOCATE of the n slots from i on.
 pub fn plan_allocate(

@@ -1,42 +1,27 @@
-// The store: geometry, tables, soundness, counts, the edits and what is read. The rules stand in specs/.
+// The store: the edits and what is read.
 mod allocate;
 mod bytes;
 mod clone;
 mod copy;
 mod copy_bytes;
 mod deallocate;
+mod edit;
 mod edit_plans;
-mod files;
-mod geometry;
-mod make;
 mod plan;
 mod ranges;
 mod read;
 mod seek;
-mod source;
-mod survey;
-mod tally;
-mod view;
-mod words;
 mod write;
 
 pub use allocate::allocate_file;
 pub use clone::clone_file;
 pub use copy::copy_file;
 pub use deallocate::deallocate_file;
-pub use geometry::Geometry;
-pub use geometry::good_lengths;
-pub use make::make_empty;
+pub use edit::Act;
+pub use edit::Edit;
+pub use edit::Source;
 pub use read::Pieces;
 pub use read::put_file_bytes;
 pub use read::put_pieces;
 pub use seek::seek_file;
-pub use source::Source;
-pub use survey::Counts;
-pub use survey::count_blocks;
-pub use survey::soundness;
-pub use survey::survey_tables;
-pub use view::Kind;
-pub use view::slot_kind;
-pub use view::slot_view;
 pub use write::write_file;

@@ -5,14 +5,15 @@ ghost use Prim.Native.Nat.{suc, _+_, _%_, _<_, _≤_};
 ghost use lib.ListN.{length};
 ghost use Rattle.xdr.specs.Bytes.{splice};
 ghost use Rattle.rules.specs.Store.{word, fitsPool};
-ghost use Rattle.store.specs.Plan.{TableTrue, Planned};
+ghost use Rattle.tables.specs.Tables.{TableTrue};
+ghost use Rattle.store.specs.Plan.{Planned};
 ghost use Rattle.store.specs.Own.{Undone, SlotOwned, RangeOwned, WritePlanned};
 ghost use Rattle.rules.proofs.PlanLaws.{InPool};
-use crate::tally::lowest_free;
-use crate::tally::owed_slots;
-use crate::tally::takes_block;
-use crate::tally::used_blocks;
-use crate::words::set_word;
+use tables::lowest_free;
+use tables::owed_slots;
+use tables::set_word;
+use tables::takes_block;
+use tables::used_blocks;
 
 // Whether used and owed blocks fit the pool.
 pub fn judge(words: &[u32], counts: &[u32]) -> bool

@@ -7,11 +7,11 @@ ghost use Rattle.rules.specs.Lists.{each};
 ghost use Rattle.rules.specs.Store.{goodGeometry, isHole};
 ghost use Rattle.rules.specs.Edit.{givesBack};
 ghost use Rattle.rules.proofs.EditSteps.{reserve, share, giveBack};
-ghost use Rattle.store.specs.Lent.{geometryOf};
-ghost use Rattle.store.specs.Plan.{TableTrue};
+ghost use Rattle.tables.specs.Lent.{geometryOf};
+ghost use Rattle.tables.specs.Tables.{TableTrue};
 ghost use Rattle.store.specs.Ranges.{RangeDone};
-use crate::geometry::Geometry;
-use crate::words::set_word;
+use tables::Geometry;
+use tables::set_word;
 
 // Sets r in the n slots from i on.
 pub fn reserve_range(words: &mut [u32], counts: &mut [u32], i: usize, n: usize)

@@ -5,14 +5,14 @@ ghost use Prim.Native.Nat.{ℕ, _+_, _-_, _%_, _<_, _≤_, min};
 ghost use lib.ListN.{length};
 ghost use Rattle.xdr.specs.Bytes.{Written};
 ghost use Rattle.xdr.specs.Encode.{opaque, opaqueSize};
-ghost use Rattle.store.specs.Lent.{geometryOf};
+ghost use Rattle.tables.specs.Lent.{geometryOf};
 ghost use Rattle.rules.specs.Store.{bytesFrom};
 ghost use Rattle.rules.specs.Operation.{dataPiece, holePiece, pieceBytes};
 ghost use Rattle.store.specs.Readable.{Readable, InSlot, PieceFits, PiecesFit, PiecesPut, pieceAt, pieceSize};
-use crate::geometry::Geometry;
 use crate::seek::hole_at;
 use crate::seek::piece_end;
 use crate::seek::word_at;
+use tables::Geometry;
 
 // How many pieces were written, and the place after them.
 pub struct Pieces {

@@ -3,11 +3,11 @@ ghost use mathlib.Core.Path.{_≡_};
 ghost use mathlib.Core.List.{List};
 ghost use Prim.Native.Nat.{ℕ, _+_, _/_, _<_};
 ghost use lib.ListN.{getD};
-ghost use Rattle.store.specs.Lent.{geometryOf};
+ghost use Rattle.tables.specs.Lent.{geometryOf};
 ghost use Rattle.rules.specs.Store.{wordOf};
 ghost use Rattle.rules.specs.Read.{seekPlace};
 ghost use Rattle.store.specs.Readable.{Placed, PieceEnds, holeIn};
-use crate::geometry::Geometry;
+use tables::Geometry;
 
 // The word of the slot in which place i of file f lies.
 pub fn word_at(g: Geometry, words: &[u32], f: usize, i: usize) -> u32

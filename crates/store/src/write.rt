@@ -5,12 +5,12 @@ ghost use Prim.Native.Nat.{max, _+_, _-_, _*_, _^_, _<_, _≤_};
 ghost use lib.ListN.{length, getD, set};
 ghost use Rattle.rules.specs.Store.{goodGeometry};
 ghost use Rattle.rules.specs.Edit.{slotCount, edited, writing};
-ghost use Rattle.store.specs.Lent.{geometryOf, after, before, tables};
+ghost use Rattle.tables.specs.Lent.{geometryOf, after, before, tables};
 ghost use Rattle.store.specs.SlotBytes.{AllTouched};
 ghost use Rattle.store.specs.EditPromises.{EditPromise, WriteKnown, SlotsKnown, Finished};
 use crate::bytes::write_slots;
-use crate::geometry::Geometry;
 use crate::plan::plan_write;
+use tables::Geometry;
 
 // The size of file f becomes `end` where it was smaller.
 pub fn grow(sizes: &mut [u64], f: usize, end: usize)

@@ -2,7 +2,7 @@
 // numbers of `count_blocks` (refusal, used, owed), and of slot 0 of file 0 the refusal, 'hole' or 'data', and the length
 // shown. The tables are of F 2, S 4, N 4, B 512 unless the name says otherwise.
 use libc::STDOUT_FILENO;
-use store::Geometry;
+use tables::Geometry;
 
 fn say(text: &[u8]) {
     io::write_all(STDOUT_FILENO, text);
@@ -19,12 +19,12 @@ fn say_kind(hole: bool) {
 
 fn tell<'a>(name: &[u8], g: Geometry, sizes: &[u64], words: &[u32], mem: &'a [u8], page: &'a [u8]) {
     say(name);
-    say_number(store::soundness(g, sizes, words, mem) as u64);
-    let c = store::count_blocks(g, sizes, words, mem);
+    say_number(tables::soundness(g, sizes, words, mem) as u64);
+    let c = tables::count_blocks(g, sizes, words, mem);
     say_number(c.number as u64);
     say_number(c.used as u64);
     say_number(c.owed as u64);
-    let k = store::slot_kind(g, sizes, words, mem, page, 0, 0);
+    let k = tables::slot_kind(g, sizes, words, mem, page, 0, 0);
     say_number(k.number as u64);
     say_kind(k.hole);
     say_view(g, sizes, words, mem, page);
@@ -32,7 +32,7 @@ fn tell<'a>(name: &[u8], g: Geometry, sizes: &[u64], words: &[u32], mem: &'a [u8
 }
 
 fn say_view<'a>(g: Geometry, sizes: &[u64], words: &[u32], mem: &'a [u8], page: &'a [u8]) {
-    say_number(store::slot_view(g, sizes, words, mem, page, 0, 0).len() as u64);
+    say_number(tables::slot_view(g, sizes, words, mem, page, 0, 0).len() as u64);
 }
 
 fn small() -> Geometry {
@@ -192,7 +192,7 @@ fn pages() {
 // Makes an empty store of tables that hold other numbers, and tells of them.
 fn make(name: &[u8], sizes: &mut [u64], words: &mut [u32], mem: &mut [u8], page: &[u8]) {
     say(b"make");
-    say_number(store::make_empty(small(), sizes, words, mem) as u64);
+    say_number(tables::make_empty(small(), sizes, words, mem) as u64);
     say(b" ");
     tell(name, small(), sizes, words, mem, page);
 }

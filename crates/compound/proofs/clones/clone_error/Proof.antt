@@ -3,7 +3,7 @@ use mathlib.Core.Path.{refl, sym, ap, _∙_}
 use mathlib.Core.List.{List}
 use borrow.Author.Tests.{not-true, not-false}
 use lib.ListN.{getD}
-use Rattle.store.specs.Lent.{geometryOf}
+use Rattle.tables.specs.Lent.{geometryOf}
 use Rattle.compound.proofs.CloneOps.{clone-first}
 use borrow.Author.Needs.{needs}
 use Rattle.compound.proofs.clones.clone_error.Statement.{statement}

@@ -1,6 +1,6 @@
 use mathlib.Core.Path.{refl, sym, _∙_}
 use borrow.Author.Tests.{not-true, not-false, eq-eqb, ne-eqb}
-use Rattle.store.specs.Lent.{geometryOf}
+use Rattle.tables.specs.Lent.{geometryOf}
 use Rattle.compound.proofs.CloneOps.{copy-first}
 use borrow.Author.Needs.{needs}
 use Rattle.compound.proofs.clones.copy_error.Statement.{statement}

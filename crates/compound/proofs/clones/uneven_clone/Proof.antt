@@ -1,4 +1,4 @@
-use Rattle.store.specs.Lent.{geometryOf}
+use Rattle.tables.specs.Lent.{geometryOf}
 use Rattle.rules.proofs.GeometryLaws.{good, block-pos}
 use Rattle.compound.proofs.LeafLaws.{uneven-from, uneven-to, even-count, uneven-past, uneven-end}
 use Rattle.compound.proofs.clones.uneven_clone.Statement.{statement}

@@ -1,6 +1,6 @@
 use Prim.Native.Nat.{_*_}
 use native.Mathlib.Omega.{arith}
-use Rattle.store.specs.Lent.{geometryOf}
+use Rattle.tables.specs.Lent.{geometryOf}
 use Rattle.rules.proofs.GeometryLaws.{good, file-most}
 use Rattle.compound.proofs.LeafLaws.{past-long, past-sum, big-empty, big-is}
 use Rattle.compound.proofs.region.too_big.Statement.{statement}

@@ -1,7 +1,7 @@
 use Prim.Native.Nat.{_-_}
 use mathlib.Core.Path.{sym, _∙_}
 use native.Mathlib.Omega.{arith}
-use Rattle.store.specs.Lent.{geometryOf}
+use Rattle.tables.specs.Lent.{geometryOf}
 use Rattle.compound.specs.Runner.{stateOf}
 use Rattle.compound.proofs.LoopLaws.{Held, held-start, held-runs, held-more, held-stop, held-end}
 use Rattle.compound.proofs.run.run.Statement.{statement}

@@ -1,7 +1,7 @@
 use mathlib.Core.Path.{sym}
 use borrow.Author.Needs.{needs}
 use lib.Seq.{length-take-le}
-use Rattle.store.proofs.SurveyLaws.{table-part}
+use Rattle.tables.proofs.SurveyLaws.{table-part}
 use Rattle.compound.proofs.serving.serve_in.Statement.{statement}
 use Rattle.compound.proofs.serving.serve_in.Tie as tie
 

@@ -1,5 +1,5 @@
 use borrow.Author.Needs.{needs}
-use Rattle.store.proofs.SurveyLaws.{table-zeros}
+use Rattle.tables.proofs.SurveyLaws.{table-zeros}
 use Rattle.compound.proofs.serving.serve_shaped.Statement.{statement}
 use Rattle.compound.proofs.serving.serve_shaped.Tie as tie
 

@@ -1,5 +1,5 @@
 use native.Mathlib.Omega.{arith}
-use Rattle.store.specs.Lent.{geometryOf}
+use Rattle.tables.specs.Lent.{geometryOf}
 use Rattle.store.proofs.StoreLaws.{block-start}
 use borrow.Author.Needs.{needs}
 use Rattle.store.proofs.bytes.block_start.Statement.{statement}

@@ -1,7 +1,7 @@
 use Prim.Native.Nat.{_+_, _-_}
 use native.Mathlib.Omega.{arith}
 use lib.ListN.{length, getD}
-use Rattle.store.specs.Lent.{geometryOf}
+use Rattle.tables.specs.Lent.{geometryOf}
 use Rattle.rules.specs.Edit.{within, storeSlot}
 use Rattle.store.specs.SlotBytes.{storeSlots}
 use Rattle.store.proofs.StoreLaws.{slot-number, Storing, storing-start, storing-turn, storing-end}

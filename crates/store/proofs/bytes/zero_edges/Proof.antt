@@ -1,7 +1,7 @@
 use Prim.Native.Nat.{_+_, _-_}
 use native.Mathlib.Omega.{arith}
 use lib.ListN.{length, getD}
-use Rattle.store.specs.Lent.{geometryOf}
+use Rattle.tables.specs.Lent.{geometryOf}
 use Rattle.store.specs.SlotBytes.{zeroEdge, zeroSlots}
 use Rattle.store.proofs.StoreLaws.{Storing, storing-start, storing-turn, storing-end}
 use Rattle.store.proofs.EdgeLaws.{edge-number}

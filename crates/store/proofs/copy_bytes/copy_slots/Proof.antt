@@ -3,7 +3,7 @@ use mathlib.Core.Path.{_≡_, refl, _∙_}
 use mathlib.Core.List.{[]}
 use native.Mathlib.Omega.{arith}
 use lib.ListN.{length}
-use Rattle.store.specs.Lent.{geometryOf}
+use Rattle.tables.specs.Lent.{geometryOf}
 use Rattle.store.specs.SlotBytes.{storeSlots}
 use Rattle.store.proofs.StoreLaws.{slot-number, storing-end}
 use Rattle.store.proofs.CopyBytes.{Copying, copying-start, copying-ready, copying-turn}

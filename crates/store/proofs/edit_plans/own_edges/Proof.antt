@@ -3,7 +3,7 @@ use mathlib.Core.Path.{refl, _∙_}
 use native.Mathlib.Omega.{arith}
 use borrow.Author.Tests.{not-true, not-false}
 use borrow.Author.Needs.{needs}
-use Rattle.store.specs.Lent.{geometryOf}
+use Rattle.tables.specs.Lent.{geometryOf}
 use Rattle.store.specs.Own.{skipsBy}
 use Rattle.store.proofs.OwnLaws.{Owning, own-turn, own-stop, own-end}
 use Rattle.store.proofs.SettleLaws.{slot-edge}

@@ -1,8 +1,8 @@
 use native.Mathlib.Omega.{arith}
 use lib.Dec.{ltb}
 use borrow.Author.Needs.{needs}
-use Rattle.store.specs.Tally.{owesBy}
-use Rattle.store.proofs.TallyLaws.{count-most, tallied-used, tallied-owed}
+use Rattle.tables.specs.Tally.{owesBy}
+use Rattle.tables.proofs.TallyLaws.{count-most, tallied-used, tallied-owed}
 use Rattle.store.proofs.plan.judge.Statement.{statement}
 use Rattle.store.proofs.plan.judge.Tie as tie
 

@@ -5,7 +5,7 @@ use native.Mathlib.Omega.{arith}
 use lib.ListN.{length, drop}
 use lib.Seq.{sets}
 use borrow.Author.Needs.{needs}
-use Rattle.store.specs.Plan.{TableTrue}
+use Rattle.tables.specs.Tables.{TableTrue}
 use Rattle.store.proofs.OwnLaws.{undo-more, undo-all}
 use Rattle.store.proofs.plan.undo.Statement.{statement}
 use Rattle.store.proofs.plan.undo.Tie as tie

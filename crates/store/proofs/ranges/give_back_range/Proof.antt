@@ -1,7 +1,7 @@
 use Prim.Native.Nat.{_-_}
 use mathlib.Core.Path.{refl}
 use native.Mathlib.Omega.{arith}
-use Rattle.store.specs.Lent.{geometryOf}
+use Rattle.tables.specs.Lent.{geometryOf}
 use Rattle.rules.specs.Lists.{each}
 use Rattle.rules.specs.Edit.{givesBack}
 use Rattle.rules.proofs.EditSteps.{giveBack}

@@ -1,7 +1,7 @@
 use Prim.Native.Nat.{_+_, _*_, min}
 use native.Mathlib.Omega.{arith}
 use borrow.Author.Tests.{le-leb, lt-leb, lt-ltb, le-ltb}
-use Rattle.store.specs.Lent.{geometryOf}
+use Rattle.tables.specs.Lent.{geometryOf}
 use Rattle.rules.specs.Edit.{givesBack}
 use Rattle.store.proofs.RangeLaws.{slot-most, end-of-two}
 use Rattle.store.proofs.ranges.slot_whole.Statement.{statement}

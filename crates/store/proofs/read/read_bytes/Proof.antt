@@ -6,7 +6,7 @@ use native.Mathlib.Omega.{arith}
 use lib.ListN.{length, take}
 use lib.Seq.{take-all}
 use Rattle.rules.specs.Store.{bytesFrom}
-use Rattle.store.specs.Lent.{geometryOf}
+use Rattle.tables.specs.Lent.{geometryOf}
 use Rattle.rules.proofs.GeometryLaws.{good, file-most}
 use Rattle.store.proofs.PlaceLaws.{readable-pos, share-ready, read-on}
 use Rattle.store.proofs.read.read_bytes.Statement.{statement}

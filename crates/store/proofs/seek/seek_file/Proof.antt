@@ -6,7 +6,7 @@ use native.Mathlib.Omega.{arith}
 use borrow.Author.Needs.{needs}
 use lib.ListN.{getD}
 use Rattle.rules.specs.Read.{seekPlace}
-use Rattle.store.specs.Lent.{geometryOf}
+use Rattle.tables.specs.Lent.{geometryOf}
 use Rattle.rules.proofs.GeometryLaws.{good, file-most}
 use Rattle.rules.proofs.ReadLaws.{slot-end}
 use Rattle.store.proofs.PlaceLaws.{placed-pos}

@@ -1,0 +1,89 @@
+-- The ways out of the store's own calls: one law for each refusal, and one for the answer.
+use Prim.Native.Nat.{ℕ, suc, _+_, _*_, _/_}
+use mathlib.Core.Path.{_≡_, sym, ap, _∙_}
+use mathlib.Core.Bool.{Bool, true, false}
+use native.Mathlib.Omega.{arith}
+use lib.ListN.{length, getD, replicate}
+use lib.Dec.{leb, eqb}
+use borrow.Author.Tests.{ne-eqb}
+use Rattle.rules.specs.Lists.{allTo}
+use Rattle.rules.specs.Store.{Geometry, goodGeometry, Store, goodLengths, emptyStore, sound, soundFile, used, owed}
+use Rattle.rules.specs.Calls.{makeRefusal, madeStore, MakePromise, storeRefusal, usedCount, owedCount, CountPromise}
+use Rattle.tables.specs.Tables.{Shaped}
+use Rattle.rules.proofs.GeometryLaws.{lengths}
+
+-- ---- make an empty store
+
+module _ (g : Geometry) (st : Store) where
+  make-refused : (k : ℕ) → makeRefusal g st ≡ suc k → MakePromise g st (suc k) st
+  unfolding madeStore
+  make-refused k e = record { number-is = sym e; sizes-are = ap (λ (x : Store). x .sizes) same; words-are = ap (λ (x : Store). x .words) same; mem-is = ap (λ (x : Store). x .mem) same }
+    where
+      same : st ≡ madeStore g st
+      same = rw (e, ne-eqb (suc k) 0 (λ (z : suc k ≡ 0). omega arith))
+
+  pub make-refused-1 : goodGeometry g ≡ false → MakePromise g st 1 st
+  unfolding makeRefusal
+  make-refused-1 h = make-refused 0 (rw h)
+
+  pub make-refused-2 : goodGeometry g ≡ true → goodLengths g st ≡ false → MakePromise g st 2 st
+  unfolding makeRefusal
+  make-refused-2 h k = make-refused 1 (rw (h, k))
+
+  pub made : goodGeometry g ≡ true → goodLengths g st ≡ true → (after : Store)
+      → after .sizes ≡ replicate (length (st .sizes)) 0 → after .words ≡ replicate (length (st .words)) 0 → after .mem ≡ replicate (length (st .mem)) 0
+      → MakePromise g st 0 after
+  unfolding makeRefusal madeStore emptyStore
+  made h k after a b c =
+      let l = lengths g st k in
+      record {
+        number-is = rw (h, k);
+        sizes-are = rw (h, k) (a ∙ ap (λ (n : ℕ). replicate n 0) (l .files));
+        words-are = rw (h, k) (b ∙ ap (λ (n : ℕ). replicate n 0) (l .slots));
+        mem-is = rw (h, k) (c ∙ ap (λ (n : ℕ). replicate n 0) (l .bytes));
+      }
+
+-- ---- soundness and counts
+
+module _ (g : Geometry) (st : Store) where
+  count-refused : (k : ℕ) → storeRefusal g st ≡ suc k → CountPromise g st (suc k) 0 0
+  unfolding usedCount owedCount
+  count-refused k e =
+      let z : eqb (suc k) 0 ≡ false = ne-eqb (suc k) 0 (λ (y : suc k ≡ 0). omega arith) in
+      record { number-is = sym e; used-is = rw (e, z); owed-is = rw (e, z) }
+
+  pub count-refused-1 : goodGeometry g ≡ false → CountPromise g st 1 0 0
+  unfolding storeRefusal
+  count-refused-1 h = count-refused 0 (rw h)
+
+  pub count-refused-2 : goodGeometry g ≡ true → goodLengths g st ≡ false → CountPromise g st 2 0 0
+  unfolding storeRefusal
+  count-refused-2 h k = count-refused 1 (rw (h, k))
+
+  pub count-unsound : Shaped g st → sound g st ≡ false → CountPromise g st 3 0 0
+  unfolding storeRefusal
+  count-unsound h k = count-refused 2 (rw (h .geometry, h .lengths, k))
+
+  pub count-sound : Shaped g st → sound g st ≡ true → CountPromise g st 0 (used (st .words)) (owed (st .words))
+  unfolding usedCount owedCount storeRefusal
+  count-sound h k =
+      record { number-is = rw (h .geometry, h .lengths, k); used-is = rw (h .geometry, h .lengths, k); owed-is = rw (h .geometry, h .lengths, k) }
+
+  -- the parts of `sound`
+  abbrev formed : Bool
+  formed = allTo (g .F * g .S) (λ i. leb (getD (st .words) i 0 / 2) (g .N))
+
+  abbrev files : Bool
+  files = allTo (g .F) (soundFile g st)
+
+  pub sound-words : formed ≡ false → sound g st ≡ false
+  unfolding sound
+  sound-words h = rw h
+
+  pub sound-files : formed ≡ true → files ≡ false → sound g st ≡ false
+  unfolding sound
+  sound-files h k = rw (h, k)
+
+  pub sound-room : formed ≡ true → files ≡ true → (t : Bool) → leb (used (st .words) + owed (st .words)) (g .N) ≡ t → sound g st ≡ t
+  unfolding sound
+  sound-room h k t e = rw (h, k) e

@@ -1,0 +1,6 @@
+pub mod CallLaws
+pub mod SlotLaws
+pub mod TallyLaws
+pub mod WordLaws
+pub mod FileTests
+pub mod SurveyLaws

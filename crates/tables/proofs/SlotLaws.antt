@@ -1,0 +1,179 @@
+-- The ways out of the slot's two calls.
+use Prim.Native.Nat.{_+_, _-_, ℕ, _*_, _/_, _≤_, _<_}
+use mathlib.Core.Path.{_≡_, refl, sym, _∙_}
+use mathlib.Core.Bool.{Bool, true, false, cond, _&&_, not, true≢false}
+use mathlib.Core.List.{List, []}
+use mathlib.Core.Logic.{_≢_}
+use native.Mathlib.Nat.{add-sub-cancel-left}
+use native.Mathlib.Numerals.{sub-one}
+use native.Mathlib.Omega.{arith}
+use lib.ListN.{length, getD, take, drop}
+use lib.Dec.{ltb, eqb}
+use borrow.Author.Tests.{lt-ltb, le-ltb, eq-eqb, ne-eqb, ltb-true, eqb-true}
+use Rattle.rules.specs.Lists.{allTo}
+use Rattle.rules.specs.Store.{Geometry, goodGeometry, Store, goodLengths, isHole, wordOf, sound}
+use Rattle.rules.specs.Calls.{storeRefusal, slotRefusals, slotRefusal, slotView, slotIsHole, KindPromise}
+use Rattle.tables.specs.Tables.{Shaped}
+use Rattle.rules.proofs.BoolLaws.{and-left, and-right, not-is}
+use Rattle.rules.proofs.FirstLaws.{all-clear}
+use Rattle.rules.proofs.SoundLaws.{sound-facts}
+use Rattle.rules.proofs.GeometryLaws.{good, block-pos}
+use Rattle.tables.proofs.FileTests.{FileRoom, file-room}
+
+-- what a store's refusal number says
+pub data Verdict (g : Geometry) (st : Store) : ℕ → Type 0 where
+  bad-geometry : goodGeometry g ≡ false → Verdict g st 1
+  bad-lengths : goodGeometry g ≡ true → goodLengths g st ≡ false → Verdict g st 2
+  unsound : Shaped g st → sound g st ≡ false → Verdict g st 3
+  fine : Shaped g st → sound g st ≡ true → Verdict g st 0
+
+pub verdict : (g : Geometry) (st : Store) → Verdict g st (storeRefusal g st)
+unfolding storeRefusal
+verdict g st = go (goodGeometry g) refl (goodLengths g st) refl (sound g st) refl
+  where
+    go : (a : Bool) → goodGeometry g ≡ a → (b : Bool) → goodLengths g st ≡ b → (c : Bool) → sound g st ≡ c
+        → Verdict g st (cond (not a) 1 (cond (not b) 2 (cond (not c) 3 0)))
+    go false p b q c r = bad-geometry p
+    go true p false q c r = bad-lengths p q
+    go true p true q false r = unsound (record { geometry = p; lengths = q }) r
+    go true p true q true r = fine (record { geometry = p; lengths = q }) r
+
+module _ (g : Geometry) (st : Store) where
+  pub number-1 : storeRefusal g st ≡ 1 → goodGeometry g ≡ false
+  number-1 e = go (verdict g st) e
+    where
+      go : {n : ℕ} → Verdict g st n → n ≡ 1 → goodGeometry g ≡ false
+      go (bad-geometry p) e = p
+      go (bad-lengths p q) e = absurd (omega (arith, e))
+      go (unsound p q) e = absurd (omega (arith, e))
+      go (fine p q) e = absurd (omega (arith, e))
+
+  pub number-2 : storeRefusal g st ≡ 2 → (goodGeometry g ≡ true) × (goodLengths g st ≡ false)
+  number-2 e = go (verdict g st) e
+    where
+      go : {n : ℕ} → Verdict g st n → n ≡ 2 → (goodGeometry g ≡ true) × (goodLengths g st ≡ false)
+      go (bad-geometry p) e = absurd (omega (arith, e))
+      go (bad-lengths p q) e = (p, q)
+      go (unsound p q) e = absurd (omega (arith, e))
+      go (fine p q) e = absurd (omega (arith, e))
+
+  -- past refusals 1 and 2
+  pub number-shaped : storeRefusal g st ≢ 1 → storeRefusal g st ≢ 2 → Shaped g st
+  number-shaped a b = go (verdict g st) a b
+    where
+      go : {n : ℕ} → Verdict g st n → n ≢ 1 → n ≢ 2 → Shaped g st
+      go (bad-geometry p) a b = absurd (a refl)
+      go (bad-lengths p q) a b = absurd (b refl)
+      go (unsound p q) a b = p
+      go (fine p q) a b = p
+
+  pub number-sound : storeRefusal g st ≡ 0 → sound g st ≡ true
+  number-sound e = go (verdict g st) e
+    where
+      go : {n : ℕ} → Verdict g st n → n ≡ 0 → sound g st ≡ true
+      go (bad-geometry p) e = absurd (omega (arith, e))
+      go (bad-lengths p q) e = absurd (omega (arith, e))
+      go (unsound p q) e = absurd (omega (arith, e))
+      go (fine p q) e = q
+
+  pub number-unsound : Shaped g st → storeRefusal g st ≢ 0 → sound g st ≡ false
+  number-unsound h d = go (verdict g st) d
+    where
+      go : {n : ℕ} → Verdict g st n → n ≢ 0 → sound g st ≡ false
+      go (bad-geometry p) d = absurd (true≢false (sym (h .geometry) ∙ p))
+      go (bad-lengths p q) d = absurd (true≢false (sym (h .lengths) ∙ q))
+      go (unsound p q) d = q
+      go (fine p q) d = absurd (d refl)
+
+-- ---- the slot's refusal
+
+module _ (g : Geometry) (st : Store) (page : List ℕ) (f k : ℕ) where
+  abbrev clean : Bool
+  clean = allTo (length page) (λ j. eqb (getD page j 0) 0)
+
+  pub slot-geometry : goodGeometry g ≡ false → slotRefusal g st page f k ≡ 1
+  unfolding slotRefusal
+  slot-geometry h = rw h
+
+  pub slot-lengths : goodGeometry g ≡ true → goodLengths g st ≡ false → slotRefusal g st page f k ≡ 2
+  unfolding slotRefusal
+  slot-lengths h l = rw (h, l)
+
+  module _ (h : Shaped g st) where
+    pub slot-page : length page ≢ g .B → slotRefusal g st page f k ≡ 2
+    unfolding slotRefusal
+    slot-page d = rw (h .geometry, h .lengths, ne-eqb (length page) (g .B) d)
+
+    module _ (b : length page ≡ g .B) where
+      pub slot-unsound : sound g st ≡ false → slotRefusal g st page f k ≡ 3
+      unfolding slotRefusal
+      slot-unsound s = rw (h .geometry, h .lengths, eq-eqb (length page) (g .B) b, s)
+
+      module _ (s : sound g st ≡ true) where
+        pub slot-dirty : clean ≡ false → slotRefusal g st page f k ≡ 3
+        unfolding slotRefusal
+        slot-dirty d = rw (h .geometry, h .lengths, eq-eqb (length page) (g .B) b, s, d)
+
+        module _ (z : clean ≡ true) where
+          pub slot-no-file : g .F ≤ f → slotRefusal g st page f k ≡ 8
+          unfolding slotRefusal
+          slot-no-file l = rw (h .geometry, h .lengths, eq-eqb (length page) (g .B) b, s, z, le-ltb f (g .F) l)
+
+          pub slot-no-slot : f < g .F → g .S ≤ k → slotRefusal g st page f k ≡ 8
+          unfolding slotRefusal
+          slot-no-slot l m = rw (h .geometry, h .lengths, eq-eqb (length page) (g .B) b, s, z, lt-ltb f (g .F) l, le-ltb k (g .S) m)
+
+          pub slot-there : f < g .F → k < g .S → slotRefusal g st page f k ≡ 0
+          unfolding slotRefusal
+          slot-there l m = rw (h .geometry, h .lengths, eq-eqb (length page) (g .B) b, s, z, lt-ltb f (g .F) l, lt-ltb k (g .S) m)
+
+  -- what is known where nothing is refused
+  pub record SlotKnown : Type 0 where
+    pub shaped : Shaped g st
+    pub page-long : length page ≡ g .B
+    pub sound : sound g st ≡ true
+    pub file : f < g .F
+    pub slot : k < g .S
+
+  pub slot-known : slotRefusal g st page f k ≡ 0 → SlotKnown
+  unfolding slotRefusal
+  slot-known e =
+      let c = all-clear (slotRefusals g st page f k) refl e in
+      let two = not-is (goodLengths g st && eqb (length page) (g .B)) (c .1 .0) in
+      let eight = not-is (ltb f (g .F) && ltb k (g .S)) (c .1 .1 .1 .0) in
+      record {
+        shaped = record { geometry = not-is (goodGeometry g) (c .0); lengths = and-left (goodLengths g st) (eqb (length page) (g .B)) two };
+        page-long = eqb-true (length page) (g .B) (and-right (goodLengths g st) (eqb (length page) (g .B)) two);
+        sound = and-left (sound g st) clean (not-is (sound g st && clean) (c .1 .1 .0));
+        file = ltb-true f (g .F) (and-left (ltb f (g .F)) (ltb k (g .S)) eight);
+        slot = ltb-true k (g .S) (and-right (ltb f (g .F)) (ltb k (g .S)) eight);
+      }
+
+  pub slot-room : SlotKnown → FileRoom g st f
+  slot-room h =
+      let s = sound-facts g (block-pos (good g (h .shaped .geometry))) st (h .shaped .lengths) (h .sound) in
+      file-room (record { tables = record { shaped = h .shaped; pool = s .pool }; file = h .file })
+
+  -- ---- kind and view
+
+  pub kind-refused : (n : ℕ) → n ≢ 0 → n ≡ slotRefusal g st page f k → KindPromise g st page f k n true
+  unfolding slotIsHole
+  kind-refused n d e = record { number-is = e; hole-is = rw (← e, ne-eqb n 0 d) }
+
+  pub kind-is : 0 ≡ slotRefusal g st page f k → (t : Bool) → t ≡ isHole (wordOf g (st .words) f k) → KindPromise g st page f k 0 t
+  unfolding slotIsHole
+  kind-is e t h = record { number-is = e; hole-is = rw (← e) h }
+
+  pub view-refused : slotRefusal g st page f k ≢ 0 → slotView g st page f k ≡ []
+  unfolding slotView
+  view-refused d = rw (ne-eqb (slotRefusal g st page f k) 0 d)
+
+  pub view-hole : slotRefusal g st page f k ≡ 0 → wordOf g (st .words) f k / 2 ≡ 0 → slotView g st page f k ≡ page
+  unfolding slotView
+  view-hole e h = rw (e, h)
+
+  -- as the code takes it: from (b - 1) × B on, up to that plus B
+  pub view-block : slotRefusal g st page f k ≡ 0 → (b : ℕ) → b ≡ wordOf g (st .words) f k / 2 → (b ≡ 0 → ⊥)
+      → take ((b - 1) * g .B + g .B - (b - 1) * g .B) (drop ((b - 1) * g .B) (st .mem)) ≡ slotView g st page f k
+  unfolding slotView
+  view-block e b is d = rw (e, ← is, ne-eqb b 0 d, add-sub-cancel-left ((b - 1) * g .B) (g .B), sub-one b)

@@ -1,0 +1,54 @@
+use Rattle.tables.proofs.WordLaws.{held-once, few-holders, stored}
+use borrow.Author.Needs.{needs}
+use Rattle.tables.proofs.words.set_word.Statement.{statement}
+use Rattle.tables.proofs.words.set_word.Tie as tie
+
+mul-forget : tie.Need-mul-forget
+mul-forget c = search needs
+
+slice-read-forget : tie.Need-slice-read-forget
+slice-read-forget c = search needs
+
+forget-requires : tie.Need-forget-requires
+forget-requires c κs =
+    let s = c .before .before .before .before in
+    (s .pre .0 .pool (s .args .i), held-once _ _ (s .pre .0) (s .args .i) (s .pre .1 .0))
+
+note-requires : tie.Need-note-requires
+note-requires c κs =
+    let k = c .before .before .before in
+    let s = k .before .before .before .before .before in
+    (rw (k .forget .kept .0) (s .pre .1 .1), rw (k .forget .ensures) (few-holders _ _ (s .pre .0) (s .args .i) (s .pre .1 .0)))
+
+mul-words : tie.Need-mul-words
+mul-words c = search needs
+
+slice-write-words : tie.Need-slice-write-words
+slice-write-words c = search needs
+
+same-length : tie.Need-same-length
+same-length c = search needs
+
+same-length-2 : tie.Need-same-length-2
+same-length-2 c = search needs
+
+returns : tie.Need-returns
+returns c =
+    let n = c .before .before in
+    let k = n .before .before .before .before in
+    let s = k .before .before .before .before .before in
+    rw (n .note .ensures, k .forget .ensures) (stored _ _ (s .pre .0) (s .args .i) (s .pre .1 .0) (s .args .w) (s .pre .1 .1))
+
+pub set-word-spec : {M : Type 1} → statement M
+set-word-spec =
+    tie.close
+    (tie.spec
+    mul-forget
+    slice-read-forget
+    forget-requires
+    note-requires
+    mul-words
+    slice-write-words
+    same-length
+    same-length-2
+    returns)

@@ -1,0 +1,4 @@
+pub mod Lent
+pub mod Tables
+pub mod Tally
+pub mod Survey

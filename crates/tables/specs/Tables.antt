@@ -1,0 +1,38 @@
+-- What is known of the tables where an inner function is called: contracts cite these records.
+use Prim.Native.Nat.{ℕ, _≤_, _<_}
+use mathlib.Core.Path.{_≡_}
+use mathlib.Core.Bool.{true}
+use mathlib.Core.List.{List}
+use lib.ListN.{length, getD, set}
+use Rattle.rules.specs.Store.{Geometry, goodGeometry, Store, goodLengths, holders}
+use Rattle.rules.proofs.PlanLaws.{InPool}
+
+-- a good geometry, and tables of its lengths
+pub record Shaped (g : Geometry) (st : Store) : Type 0 where
+  pub geometry : goodGeometry g ≡ true
+  pub lengths : goodLengths g st ≡ true
+
+-- tables of a good geometry whose words name blocks of the pool
+pub record Pooled (g : Geometry) (st : Store) : Type 0 where
+  pub shaped : Shaped g st
+  pub pool : InPool (g .N) (st .words)
+
+-- and file f is one of theirs
+pub record FileKnown (g : Geometry) (st : Store) (f : ℕ) : Type 0 where
+  pub tables : Pooled g st
+  pub file : f < g .F
+
+-- the table of holders: for each block the number of slots that hold it
+pub record Tallied (ws counts : List ℕ) : Type 0 where
+  pub each : (b : ℕ) → b < length counts → getD counts b 0 ≡ holders b ws
+
+-- words whose blocks are in the pool, with a true table of holders
+pub record TableTrue (ws counts : List ℕ) : Type 0 where
+  pub table : Tallied ws counts
+  pub pool : InPool (length counts) ws
+  pub few : length ws ≤ 65536
+
+-- one word stored, the table still true
+pub record Stored (ws : List ℕ) (i w : ℕ) (after counts : List ℕ) : Type 0 where
+  pub words-are : after ≡ set ws i w
+  pub counted : TableTrue after counts

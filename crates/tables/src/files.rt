@@ -1,0 +1,102 @@
+// Whether each file is sound: its size, the slots past it, and the bytes of its last slot past it.
+ghost use mathlib.Core.Path.{_≡_};
+ghost use mathlib.Core.Bool.{_||_};
+ghost use Prim.Native.Nat.{_+_, _-_, _*_, _/_, _≤_};
+ghost use lib.ListN.{length, getD};
+ghost use lib.Dec.{eqb, ltb};
+ghost use Rattle.rules.specs.Lists.{allTo};
+ghost use Rattle.rules.specs.Store.{wordOf, slotByte, soundFile};
+ghost use Rattle.tables.specs.Lent.{geometryOf, before, tables};
+ghost use Rattle.tables.specs.Tables.{Pooled, FileKnown};
+use crate::geometry::Geometry;
+
+// Whether every byte is 0.
+pub fn zero_bytes(s: &[u8]) -> bool
+    ensures { λ r. ⌜ r ≡ allTo (length (now (s .entry))) (λ j. eqb (getD (now (s .entry)) j 0) 0) ⌝ }
+{
+    let mut i = 0;
+    while i < s.len() {
+        if s[i] != 0 {
+            return false;
+        }
+        i += 1;
+    }
+    true
+}
+
+// Whether every word is 0.
+fn zero_words(s: &[u32]) -> bool
+    ensures { λ r. ⌜ r ≡ allTo (length (now (s .entry))) (λ j. eqb (getD (now (s .entry)) j 0) 0) ⌝ }
+{
+    let mut i = 0;
+    while i < s.len() {
+        if s[i] != 0 {
+            return false;
+        }
+        i += 1;
+    }
+    true
+}
+
+// Whether the slots of file f are 0 from slot `from` on.
+fn slots_zero(g: Geometry, words: &[u32], f: usize, from: usize) -> bool
+    requires { ⌜ (f * g .slots + g .slots ≤ length (now words)) × (from ≤ g .slots) ⌝ }
+    ensures { λ r. ⌜ r ≡ allTo (g .slots) (λ k. ltb k from || eqb (wordOf (geometryOf g) (now (words .entry)) f k) 0) ⌝ }
+{
+    let at = f * g.slots;
+    let start = at + from;
+    let end = at + g.slots;
+    zero_words(&words[start..end])
+}
+
+// Whether the bytes of the slot with word w are 0 from place `from` on. In a hole they are.
+fn tail_zero(g: Geometry, mem: &[u8], w: u32, from: usize) -> bool
+    requires { ⌜ (w / 2 * g .«block_size» ≤ length (now mem)) × (from ≤ g .«block_size») ⌝ }
+    ensures { λ r. ⌜ r ≡ allTo (g .«block_size» - from) (λ j. eqb (slotByte (geometryOf g) (now (mem .entry)) w (from + j)) 0) ⌝ }
+{
+    let b = (w / 2) as usize;
+    if b == 0 {
+        return true;
+    }
+    let at = (b - 1) * g.block_size;
+    let start = at + from;
+    let end = at + g.block_size;
+    zero_bytes(&mem[start..end])
+}
+
+// Whether file f is sound. Of the block memory only the bytes past the size, in its last slot's block, are read.
+fn file_sound(g: Geometry, sizes: &[u64], words: &[u32], mem: &[u8], f: usize) -> bool
+    requires { ⌜ FileKnown (geometryOf g) (tables sizes words mem) f ⌝ }
+    ensures { λ r. ⌜ r ≡ soundFile (geometryOf g) (before sizes words mem) f ⌝ }
+{
+    let bytes = sizes[f];
+    if ((g.slots * g.block_size) as u64) < bytes {
+        return false;
+    }
+    let size = bytes as usize;
+    let end = (size + (g.block_size - 1)) / g.block_size;
+    if !slots_zero(g, words, f, end) {
+        return false;
+    }
+    let past = size % g.block_size;
+    if past == 0 {
+        return true;
+    }
+    let last = words[f * g.slots + size / g.block_size];
+    tail_zero(g, mem, last, past)
+}
+
+// Whether every file is sound.
+pub fn files_sound(g: Geometry, sizes: &[u64], words: &[u32], mem: &[u8]) -> bool
+    requires { ⌜ Pooled (geometryOf g) (tables sizes words mem) ⌝ }
+    ensures { λ r. ⌜ r ≡ allTo (g .files) (soundFile (geometryOf g) (before sizes words mem)) ⌝ }
+{
+    let mut f = 0;
+    while f < g.files {
+        if !file_sound(g, sizes, words, mem, f) {
+            return false;
+        }
+        f += 1;
+    }
+    true
+}

@@ -1,0 +1,24 @@
+// The store's tables: geometry, slot words and the table of holders; soundness, counts, an empty store, and one slot shown.
+mod files;
+mod geometry;
+mod make;
+mod survey;
+mod tally;
+mod view;
+mod words;
+
+pub use geometry::Geometry;
+pub use geometry::good_lengths;
+pub use make::make_empty;
+pub use survey::Counts;
+pub use survey::count_blocks;
+pub use survey::soundness;
+pub use survey::survey_tables;
+pub use tally::lowest_free;
+pub use tally::owed_slots;
+pub use tally::takes_block;
+pub use tally::used_blocks;
+pub use view::Kind;
+pub use view::slot_kind;
+pub use view::slot_view;
+pub use words::set_word;

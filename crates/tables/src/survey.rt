@@ -1,0 +1,112 @@
+// Whether a store is sound, and its used and owed blocks, from one table of holders.
+ghost use mathlib.Core.Path.{_≡_};
+ghost use Rattle.tables.specs.Lent.{geometryOf, before, tables};
+ghost use Rattle.tables.specs.Tables.{Shaped};
+ghost use Rattle.rules.specs.Calls.{storeRefusal, CountPromise};
+ghost use Rattle.tables.specs.Survey.{TableReady, TableFits, Surveyed};
+use crate::files::files_sound;
+use crate::geometry::Geometry;
+use crate::geometry::good_lengths;
+use crate::tally::owed_slots;
+use crate::tally::tally;
+use crate::tally::used_blocks;
+use crate::tally::words_formed;
+
+// A refusal with zero counts, or 0 with the counts.
+pub struct Counts {
+    pub number: u32,
+    pub used: usize,
+    pub owed: usize,
+}
+
+// The judgement of tables that have their lengths. `counts` has a zero for each block; where the store is sound it is the
+// table of holders afterwards.
+pub fn survey_tables(
+    g: Geometry,
+    sizes: &[u64],
+    words: &[u32],
+    mem: &[u8],
+    counts: &mut [u32],
+) -> Counts
+    requires { ⌜ TableReady (geometryOf g) (tables sizes words mem) (now counts) ⌝ }
+    ensures { λ r. ⌜ Surveyed (geometryOf g) (before sizes words mem)
+        (r .number) (r .used) (r .owed) (now (counts .exit)) ⌝ }
+{
+    if !words_formed(words, g.blocks) {
+        return Counts {
+            number: 3,
+            used: 0,
+            owed: 0,
+        };
+    }
+    if !files_sound(g, sizes, words, mem) {
+        return Counts {
+            number: 3,
+            used: 0,
+            owed: 0,
+        };
+    }
+    tally(words, counts);
+    let used = used_blocks(counts);
+    let owed = owed_slots(words, counts);
+    if g.blocks < used + owed {
+        return Counts {
+            number: 3,
+            used: 0,
+            owed: 0,
+        };
+    }
+    Counts {
+        number: 0,
+        used,
+        owed,
+    }
+}
+
+// The same in a table of any length that has a number for each block.
+fn survey_in(g: Geometry, sizes: &[u64], words: &[u32], mem: &[u8], counts: &mut [u32]) -> Counts
+    requires { ⌜ TableFits (geometryOf g) (tables sizes words mem) (now counts) ⌝ }
+    ensures { λ r. ⌜ CountPromise (geometryOf g) (before sizes words mem)
+        (r .number) (r .used) (r .owed) ⌝ }
+{
+    let n = g.blocks;
+    survey_tables(g, sizes, words, mem, &mut counts[..n])
+}
+
+fn survey_shaped(g: Geometry, sizes: &[u64], words: &[u32], mem: &[u8]) -> Counts
+    requires { ⌜ Shaped (geometryOf g) (tables sizes words mem) ⌝ }
+    ensures { λ r. ⌜ CountPromise (geometryOf g) (before sizes words mem)
+        (r .number) (r .used) (r .owed) ⌝ }
+{
+    let mut counts = [0u32; 65536];
+    survey_in(g, sizes, words, mem, &mut counts)
+}
+
+// How many blocks are used, and how many are owed.
+pub fn count_blocks(g: Geometry, sizes: &[u64], words: &[u32], mem: &[u8]) -> Counts
+    ensures { λ r. ⌜ CountPromise (geometryOf g) (before sizes words mem)
+        (r .number) (r .used) (r .owed) ⌝ }
+{
+    if !g.good() {
+        return Counts {
+            number: 1,
+            used: 0,
+            owed: 0,
+        };
+    }
+    if !good_lengths(g, sizes, words, mem) {
+        return Counts {
+            number: 2,
+            used: 0,
+            owed: 0,
+        };
+    }
+    survey_shaped(g, sizes, words, mem)
+}
+
+// Whether a store is sound: 0, or the refusal.
+pub fn soundness(g: Geometry, sizes: &[u64], words: &[u32], mem: &[u8]) -> u32
+    ensures { λ r. ⌜ r ≡ storeRefusal (geometryOf g) (before sizes words mem) ⌝ }
+{
+    count_blocks(g, sizes, words, mem).number
+}

@@ -1,0 +1,95 @@
+// One slot shown without copying: its part of the block memory, or the zero page that the caller lends.
+ghost use mathlib.Core.Path.{_≡_};
+ghost use Rattle.tables.specs.Lent.{geometryOf, before};
+ghost use Rattle.rules.specs.Calls.{slotRefusal, slotView, KindPromise};
+use crate::files::zero_bytes;
+use crate::geometry::Geometry;
+use crate::geometry::good_lengths;
+use crate::survey::soundness;
+
+// The refusal, and whether the slot is a hole.
+pub struct Kind {
+    pub number: u32,
+    pub hole: bool,
+}
+
+fn slot_refusal(
+    g: Geometry,
+    sizes: &[u64],
+    words: &[u32],
+    mem: &[u8],
+    page: &[u8],
+    f: usize,
+    k: usize,
+) -> u32
+    ensures { λ r. ⌜ r ≡ slotRefusal (geometryOf g) (before sizes words mem) (now (page .entry)) f k ⌝ }
+{
+    let number = soundness(g, sizes, words, mem);
+    if number == 1 {
+        return 1;
+    }
+    if number == 2 {
+        return 2;
+    }
+    if page.len() != g.block_size {
+        return 2;
+    }
+    if number != 0 {
+        return 3;
+    }
+    if !zero_bytes(page) {
+        return 3;
+    }
+    if g.files <= f {
+        return 8;
+    }
+    if g.slots <= k {
+        return 8;
+    }
+    0
+}
+
+pub fn slot_kind(
+    g: Geometry,
+    sizes: &[u64],
+    words: &[u32],
+    mem: &[u8],
+    page: &[u8],
+    f: usize,
+    k: usize,
+) -> Kind
+    ensures { λ r. ⌜ KindPromise (geometryOf g) (before sizes words mem) (now (page .entry)) f k (r .number) (r .hole) ⌝ }
+{
+    let number = slot_refusal(g, sizes, words, mem, page, f, k);
+    if number != 0 {
+        return Kind { number, hole: true };
+    }
+    let w = words[f * g.slots + k];
+    Kind {
+        number: 0,
+        hole: w / 2 == 0,
+    }
+}
+
+pub fn slot_view<'a>(
+    g: Geometry,
+    sizes: &[u64],
+    words: &[u32],
+    mem: &'a [u8],
+    page: &'a [u8],
+    f: usize,
+    k: usize,
+) -> &'a [u8]
+    ensures { λ r. ⌜ now r ≡ slotView (geometryOf g) (before sizes words mem) (now (page .entry)) f k ⌝ }
+{
+    if slot_refusal(g, sizes, words, mem, page, f, k) != 0 {
+        return &page[0..0];
+    }
+    let b = (words[f * g.slots + k] / 2) as usize;
+    if b == 0 {
+        return page;
+    }
+    let at = (b - 1) * g.block_size;
+    let end = at + g.block_size;
+    &mem[at..end]
+}

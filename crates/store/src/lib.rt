@@ -8,6 +8,7 @@ mod deallocate;
 mod edit;
 mod edit_plans;
 mod plan;
+mod planner;
 mod ranges;
 mod read;
 mod seek;

@@ -1,0 +1,134 @@
+-- What becomes of a slot: its kind, by the edit's act, and what a kind does to the slot words.
+use Prim.Native.Nat.{ℕ, _+_, _-_, _*_, _/_, _%_, _≤_, _<_}
+use mathlib.Core.Path.{_≡_, refl, sym, ap, _∙_}
+use mathlib.Core.Bool.{Bool, true, false, cond, not, true≢false}
+use mathlib.Core.List.{List}
+use mathlib.Core.Logic.{_≢_}
+use native.Mathlib.Nat.{le-refl, mul-le-mul-right}
+use native.Mathlib.Omega.{arith}
+use lib.ListN.{length, getD, set, length-set}
+use lib.Seq.{getD-set-other, set-getD}
+use Rattle.rules.specs.Store.{Geometry, Store, sizeOf, wordOf, word, isHole, holeOrShared, lowestFree, used}
+use Rattle.rules.specs.Edit.{firstSlot, slotCount, Kind, owns, given, shares, reserved, stays, isGiven, kindOf, become, owned, givesBack}
+use Rattle.rules.proofs.GeometryLaws.{good, block-pos, slots-all, file-most}
+use Rattle.rules.proofs.SoundStore.{slots-fit}
+use Rattle.rules.proofs.PlanLaws.{own-slot, InPool}
+use Rattle.tables.specs.Tables.{TableTrue, Stored}
+use Rattle.store.specs.declared.edit.Source.{Source}
+use Rattle.store.specs.declared.edit.Act as Code
+use Rattle.store.specs.declared.edit.Edit as CodeEdit
+use Rattle.store.specs.Edits.{editFrom}
+use Rattle.store.specs.Own.{SlotOwned}
+use Rattle.store.specs.Planner.{EditSlots, SlotOf, SharesIn, KindIs, NoBlock, SlotChanged, inPass, only, SlotPassed}
+
+-- ---- where the slots lie
+
+-- numbers that the code computes
+pub record EditRoom (g : Geometry) (e : CodeEdit.Edit) : Type 0 where
+  pub pos : 0 < g .B
+  pub slots : firstSlot g (e .off) + slotCount g (e .off) (e .end) ≤ g .S
+  pub inside : e .file * g .S + g .S ≤ g .F * g .S
+  pub most : g .F * g .S ≤ 65536
+
+pub edit-room : {g : Geometry} {e : CodeEdit.Edit} → EditSlots g e → EditRoom g e
+edit-room {g} {e} s =
+    let o = good g (s .geometry) in
+    record {
+      pos = block-pos o;
+      slots = slots-fit g (block-pos o) (e .off) (e .end) (s .some) (s .fits);
+      inside = omega (arith, mul-le-mul-right (g .S) (s .file));
+      most = slots-all g o;
+    }
+
+-- a CLONE's source slot
+module _ {g : Geometry} {e : CodeEdit.Edit} {k : ℕ} (s : SlotOf g e k) {from : Source} (q : e .act ≡ Code.Act.Clone from) where
+  pub clone-room : from .file * g .S + from .off / g .B + (k - firstSlot g (e .off)) < g .F * g .S
+  clone-room = omega (arith, rw q at (s .edit .source), s .from, s .to)
+
+-- ---- a slot's kind
+
+module _ {g : Geometry} {e : CodeEdit.Edit} {size k w : ℕ} where
+  by-act : {c : Kind} (a : Code.Act) → e .act ≡ a → SharesIn (g .F * g .S) c
+      → ((st : Store) (d : List ℕ) → sizeOf st (e .file) ≡ size → wordOf g (st .words) (e .file) k ≡ w
+      → c ≡ kindOf g st (editFrom (record { file = e .file; off = e .off; end = e .end; act = a }) d) k)
+      → KindIs g e size k w c
+  by-act a q i h = record {
+    is = λ st d p r. h st d p r ∙ ap (λ (x : Code.Act). kindOf g st (editFrom (record { file = e .file; off = e .off; end = e .end; act = x }) d) k) (sym q);
+    inside = i;
+  }
+
+  pub kind-write : e .act ≡ Code.Act.Write → KindIs g e size k w owns
+  unfolding kindOf
+  kind-write q = by-act _ q tt (λ st d p r. refl)
+
+  pub kind-copy : {s : Source} → e .act ≡ Code.Act.Copy s → KindIs g e size k w owns
+  unfolding kindOf
+  kind-copy q = by-act _ q tt (λ st d p r. refl)
+
+  pub kind-clone : SlotOf g e k → {s : Source} → e .act ≡ Code.Act.Clone s
+      → KindIs g e size k w (shares (s .file * g .S + s .off / g .B + (k - firstSlot g (e .off))))
+  unfolding kindOf
+  kind-clone h q = by-act _ q (clone-room h q) (λ st d p r. refl)
+
+  pub kind-allocate : e .act ≡ Code.Act.Allocate → KindIs g e size k w reserved
+  unfolding kindOf
+  kind-allocate q = by-act _ q tt (λ st d p r. refl)
+
+  pub kind-cut : {c : Kind} → e .act ≡ Code.Act.Deallocate → c ≡ cond (givesBack g size (e .off) (e .end) k) given (cond (isHole w) stays owns) → KindIs g e size k w c
+  unfolding kindOf
+  kind-cut q h = rw h (by-act _ q (none (givesBack g size (e .off) (e .end) k) (isHole w)) (λ st d p r. rw (p, r)))
+    where
+      none : (a b : Bool) → SharesIn (g .F * g .S) (cond a given (cond b stays owns))
+      none true b = tt
+      none false true = tt
+      none false false = tt
+
+-- ---- a slot changed
+
+module _ {ws cs : List ℕ} {i : ℕ} where
+  changed-done : {c : Kind} {after cs′ : List ℕ} → after ≡ become c ws i → TableTrue after cs′ → SlotChanged c ws cs i true after cs′
+  changed-done e k = record { words-are = e; counted = k; stopped = λ d. absurd (true≢false d) }
+
+  pub changed-stays : TableTrue ws cs → SlotChanged stays ws cs i true ws cs
+  unfolding become
+  changed-stays k = changed-done refl k
+
+  module _ {after cs′ : List ℕ} where
+    pub changed-given : Stored ws i 0 after cs′ → SlotChanged given ws cs i true after cs′
+    unfolding become
+    changed-given s = changed-done (s .words-are) (s .counted)
+
+    pub changed-shares : {p : ℕ} → Stored ws i (word (getD ws p 0 / 2) (getD ws i 0 % 2)) after cs′ → SlotChanged (shares p) ws cs i true after cs′
+    unfolding become
+    changed-shares s = changed-done (s .words-are) (s .counted)
+
+    pub changed-reserved : Stored ws i (word (getD ws i 0 / 2) 1) after cs′ → SlotChanged reserved ws cs i true after cs′
+    unfolding become
+    changed-reserved s = changed-done (s .words-are) (s .counted)
+
+    pub changed-owns : {d : Bool} → SlotOwned false ws cs i d after cs′ → SlotChanged owns ws cs i d after cs′
+    unfolding become
+    changed-owns s = record {
+      words-are = s .words-are;
+      counted = s .counted;
+      stopped = λ d. record { asked = refl; wants = s .stopped d .wants; full = s .stopped d .full };
+    }
+
+-- ---- which pass
+
+pub pass-given : (first : Bool) → first ≡ inPass first given
+pass-given true = refl
+pass-given false = refl
+
+pub pass-other : (first : Bool) (c : Kind) → isGiven c ≡ false → not first ≡ inPass first c
+pass-other true c e = sym e
+pass-other false c e = rw e
+
+-- one slot of a pass: one of another pass, and one of its own
+module _ {g : Geometry} {e : CodeEdit.Edit} {size k w : ℕ} {p : Kind → Bool} {c : Kind} (is : KindIs g e size k w c) {ws cs : List ℕ} where
+  pub slot-left : p c ≡ false → TableTrue ws cs → SlotPassed g e size p k w ws cs true ws cs
+  slot-left q h = record { kind = c; kind-is = is; changed = rw q (changed-stays h) }
+
+  pub slot-passed : p c ≡ true → {d : Bool} {after cs′ : List ℕ} → SlotChanged c ws cs (e .file * g .S + k) d after cs′
+      → SlotPassed g e size p k w ws cs d after cs′
+  slot-passed q h = record { kind = c; kind-is = is; changed = rw q h }

@@ -19,7 +19,7 @@ use Rattle.store.specs.declared.edit.Act as Code
 use Rattle.store.specs.declared.edit.Edit as CodeEdit
 use Rattle.store.specs.Edits.{editFrom}
 use Rattle.store.specs.Own.{SlotOwned}
-use Rattle.store.specs.Planner.{EditSlots, SlotOf, SharesIn, KindIs, NoBlock, SlotChanged, inPass, only, SlotPassed}
+use Rattle.store.specs.Planner.{EditSlots, Plannable, SlotOf, SharesIn, KindIs, indexOf, SlotChanged, inPass, only, SlotPassed}
 
 -- ---- where the slots lie
 
@@ -39,6 +39,9 @@ edit-room {g} {e} s =
       inside = omega (arith, mul-le-mul-right (g .S) (s .file));
       most = slots-all g o;
     }
+
+pub edit-inside : {g : Geometry} {e : CodeEdit.Edit} {ws cs old : List ℕ} → Plannable g e ws cs old → indexOf g e + slotCount g (e .off) (e .end) ≤ length ws
+edit-inside k = omega (arith, edit-room (k .edit), k .slots)
 
 -- a CLONE's source slot
 module _ {g : Geometry} {e : CodeEdit.Edit} {k : ℕ} (s : SlotOf g e k) {from : Source} (q : e .act ≡ Code.Act.Clone from) where
@@ -125,10 +128,10 @@ pass-other true c e = sym e
 pass-other false c e = rw e
 
 -- one slot of a pass: one of another pass, and one of its own
-module _ {g : Geometry} {e : CodeEdit.Edit} {size k w : ℕ} {p : Kind → Bool} {c : Kind} (is : KindIs g e size k w c) {ws cs : List ℕ} where
-  pub slot-left : p c ≡ false → TableTrue ws cs → SlotPassed g e size p k w ws cs true ws cs
+module _ {g : Geometry} {e : CodeEdit.Edit} {size k w : ℕ} {first : Bool} {c : Kind} (is : KindIs g e size k w c) {ws cs : List ℕ} where
+  pub slot-left : inPass first c ≡ false → TableTrue ws cs → SlotPassed g e size first k w ws cs true ws cs
   slot-left q h = record { kind = c; kind-is = is; changed = rw q (changed-stays h) }
 
-  pub slot-passed : p c ≡ true → {d : Bool} {after cs′ : List ℕ} → SlotChanged c ws cs (e .file * g .S + k) d after cs′
-      → SlotPassed g e size p k w ws cs d after cs′
+  pub slot-passed : inPass first c ≡ true → {d : Bool} {after cs′ : List ℕ} → SlotChanged c ws cs (e .file * g .S + k) d after cs′
+      → SlotPassed g e size first k w ws cs d after cs′
   slot-passed q h = record { kind = c; kind-is = is; changed = rw q h }

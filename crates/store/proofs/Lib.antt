@@ -13,3 +13,4 @@ pub mod CopyEdit
 pub mod CutEdit
 pub mod PlanEdits
 pub mod KindLaws
+pub mod PassLaws

@@ -8,11 +8,14 @@ ghost use Rattle.rules.specs.Edit.{given, owns, reserved, shares, stays, givesB
 ghost use Rattle.tables.specs.Lent.{geometryOf};
 ghost use Rattle.tables.specs.Tables.{TableTrue};
 ghost use Rattle.store.specs.Edits.{kindFrom};
-ghost use Rattle.store.specs.Planner.{SlotOf, KindIs, SharesIn, SlotChanged, inPass, SlotPassed};
+ghost use Rattle.store.specs.Planner.{SlotOf, KindIs, SharesIn, SlotChanged, inPass, SlotPassed, Plannable, Passed, EditPlanned};
 use crate::edit::Act;
 use crate::edit::Edit;
 use crate::edit::Kind;
 use crate::plan::own_slot;
+use crate::plan::save_words;
+use crate::plan::settle;
+use crate::plan::undo;
 use crate::ranges::slot_whole;
 use tables::Geometry;
 use tables::set_word;
@@ -116,7 +119,7 @@ fn pass_slot(
     w: u32,
 ) -> bool
     requires { ⌜ SlotOf (geometryOf g) e k × (TableTrue (now words) (now counts) × (length (now words) ≡ g .files * g .slots)) ⌝ }
-    ensures { λ r. ⌜ SlotPassed (geometryOf g) e size (inPass first) k w (now (words .entry)) (now (counts .entry)) r (now (words .exit)) (now (counts .exit)) ⌝ }
+    ensures { λ r. ⌜ SlotPassed (geometryOf g) e size first k w (now (words .entry)) (now (counts .entry)) r (now (words .exit)) (now (counts .exit)) ⌝ }
 {
     let kind = kind_of(g, e, size, k, w);
     if !in_pass(first, kind) {
@@ -124,4 +127,56 @@ fn pass_slot(
     }
     let f = e.file;
     change_slot(words, counts, f * g.slots + k, kind)
+}
+
+// A pass over the slots of e, whose words before the edit are `old`, in rising order: in the first pass those that are given back, in the
+// second the others. Stops, and answers false, where a slot takes a block and none is free.
+fn pass(
+    g: Geometry,
+    words: &mut [u32],
+    counts: &mut [u32],
+    e: Edit,
+    size: usize,
+    first: bool,
+    old: &[u32],
+) -> bool
+    requires { ⌜ Plannable (geometryOf g) e (now words) (now counts) (now old) ⌝ }
+    ensures { λ r. ⌜ Passed (geometryOf g) e size first (now (old .entry)) (now (words .entry)) r (now (words .exit)) (now (counts .exit)) ⌝ }
+{
+    let off = e.off;
+    let from = off / g.block_size;
+    let mut j = 0;
+    while j < old.len() {
+        if !pass_slot(g, words, counts, e, size, first, from + j, old[j]) {
+            return false;
+        }
+        j += 1;
+    }
+    true
+}
+
+// Plans e in place and saves the words of its slots in `old`. Where the plan does not fit the pool, the words go back.
+pub fn plan(
+    g: Geometry,
+    words: &mut [u32],
+    counts: &mut [u32],
+    e: Edit,
+    size: usize,
+    old: &mut [u32],
+) -> bool
+    requires { ⌜ Plannable (geometryOf g) e (now words) (now counts) (now old) ⌝ }
+    ensures { λ r. ⌜ EditPlanned (geometryOf g) e size (now (words .entry)) r (now (words .exit)) (now (counts .exit)) (now (old .exit)) ⌝ }
+{
+    let f = e.file;
+    let off = e.off;
+    let i = f * g.slots + off / g.block_size;
+    let end = i + old.len();
+    save_words(old, &words[i..end]);
+    // The first pass takes no block, so it does not stop.
+    pass(g, words, counts, e, size, true, old);
+    if !pass(g, words, counts, e, size, false, old) {
+        undo(words, counts, i, old);
+        return false;
+    }
+    settle(words, counts, i, old)
 }

@@ -1,16 +1,16 @@
 -- What becomes of a slot: its kind, by the edit's act, and what a kind does to the slot words.
-use Prim.Native.Nat.{ℕ, _+_, _-_, _*_, _/_, _%_, _≤_, _<_}
+use Prim.Native.Nat.{ℕ, suc, _+_, _-_, _*_, _/_, _%_, _≤_, _<_}
 use mathlib.Core.Path.{_≡_, refl, sym, ap, _∙_}
 use mathlib.Core.Bool.{Bool, true, false, cond, not, true≢false}
 use mathlib.Core.List.{List}
 use mathlib.Core.Logic.{_≢_}
 use native.Mathlib.Nat.{le-refl, mul-le-mul-right}
 use native.Mathlib.Omega.{arith}
-use lib.ListN.{length, getD, set, length-set}
-use lib.Seq.{getD-set-other, set-getD}
-use Rattle.rules.specs.Store.{Geometry, Store, sizeOf, wordOf, word, isHole, holeOrShared, lowestFree, used}
+use lib.ListN.{length, getD, length-set}
+use lib.Seq.{getD-set-other}
+use Rattle.rules.specs.Store.{Geometry, Store, sizeOf, wordOf, word, isHole, lowestFree, used}
 use Rattle.rules.specs.Edit.{firstSlot, slotCount, Kind, owns, given, shares, reserved, stays, isGiven, kindOf, become, owned, givesBack}
-use Rattle.rules.proofs.GeometryLaws.{good, block-pos, slots-all, file-most}
+use Rattle.rules.proofs.GeometryLaws.{good, block-pos, slots-all}
 use Rattle.rules.proofs.SoundStore.{slots-fit}
 use Rattle.rules.proofs.PlanLaws.{own-slot, InPool}
 use Rattle.tables.specs.Tables.{TableTrue, Stored}
@@ -19,7 +19,7 @@ use Rattle.store.specs.declared.edit.Act as Code
 use Rattle.store.specs.declared.edit.Edit as CodeEdit
 use Rattle.store.specs.Edits.{editFrom}
 use Rattle.store.specs.Own.{SlotOwned}
-use Rattle.store.specs.Planner.{EditSlots, Plannable, SlotOf, SharesIn, KindIs, indexOf, SlotChanged, inPass, only, SlotPassed}
+use Rattle.store.specs.Planner.{EditSlots, Plannable, SlotOf, SharesIn, KindIs, indexOf, NoBlock, SlotChanged, inPass, SlotPassed}
 
 -- ---- where the slots lie
 
@@ -116,6 +116,48 @@ module _ {ws cs : List ℕ} {i : ℕ} where
       counted = s .counted;
       stopped = λ d. record { asked = refl; wants = s .stopped d .wants; full = s .stopped d .full };
     }
+
+-- ---- what a kind does to the words
+
+pub become-local : (c : Kind) (ws : List ℕ) (i p : ℕ) → p ≢ i → getD (become c ws i) p 0 ≡ getD ws p 0
+unfolding become
+become-local owns ws i p d = getD-set-other ws i p _ 0 d
+become-local given ws i p d = getD-set-other ws i p _ 0 d
+become-local (shares q) ws i p d = getD-set-other ws i p _ 0 d
+become-local reserved ws i p d = getD-set-other ws i p _ 0 d
+become-local stays ws i p d = refl
+
+pub become-length : (c : Kind) (ws : List ℕ) (i : ℕ) → length (become c ws i) ≡ length ws
+unfolding become
+become-length owns ws i = length-set ws i _
+become-length given ws i = length-set ws i _
+become-length (shares q) ws i = length-set ws i _
+become-length reserved ws i = length-set ws i _
+become-length stays ws i = refl
+
+-- the kinds of a pass in which a slot may take a block; none of them loses one
+abbrev pub keeps : Kind → Bool
+keeps owns = true
+keeps given = false
+keeps (shares p) = false
+keeps reserved = false
+keeps stays = true
+
+pub keeps-used : (c : Kind) → keeps c ≡ true → (ws : List ℕ) (i : ℕ) → i < length ws → used ws ≤ used (become c ws i)
+unfolding become
+keeps-used owns e ws i h = own-slot ws i h .used-grows
+keeps-used given e ws i h = absurd (true≢false (sym e))
+keeps-used (shares p) e ws i h = absurd (true≢false (sym e))
+keeps-used reserved e ws i h = absurd (true≢false (sym e))
+keeps-used stays e ws i h = le-refl _
+
+-- a slot that finds no block: every block is used, and it takes one more
+pub stop-used : (n : ℕ) (c : Kind) (ws : List ℕ) (i : ℕ) → i < length ws → InPool n ws → NoBlock c ws i n → n < used (become c ws i)
+unfolding become owned
+stop-used n c ws i h pool none =
+    let w : ℕ = getD ws i 0 in
+    let e : owned ws w ≡ word (suc (lowestFree ws)) (w % 2) = rw (none .wants) in
+    rw (none .asked) (omega (arith, own-slot ws i h .in-pool, ap (λ x. x / 2) e, pool i, none .full))
 
 -- ---- which pass
 

@@ -1,70 +1,27 @@
 -- A pass over the slots of an edit: it changes no other slot, and one that stops for want of a block does not fit the pool.
-use Prim.Native.Nat.{ℕ, zero, suc, _+_, _-_, _*_, _/_, _%_, _≤_, _<_}
+use Prim.Native.Nat.{ℕ, zero, suc, _+_, _-_, _*_, _≤_, _<_}
 use mathlib.Core.Path.{_≡_, refl, sym, ap, _∙_}
 use mathlib.Core.Bool.{Bool, true, false, cond, not, true≢false}
 use mathlib.Core.List.{List}
 use mathlib.Core.Logic.{_≢_, _⊎_, inl, inr}
 use native.Mathlib.Nat.{le-refl, le-trans, add-zero}
-use native.Mathlib.Numerals.{add-one}
 use native.Mathlib.Omega.{arith}
 use borrow.Author.Tests.{lt-leb, not-true, not-false}
-use lib.ListN.{length, getD, set, take, drop, length-set}
-use lib.Seq.{getD-set-other, getD-take, getD-drop}
+use lib.ListN.{length, getD, take, drop}
+use lib.Seq.{getD-take, getD-drop}
 use Rattle.xdr.specs.Bytes.{splice}
 use Rattle.rules.specs.Lists.{each}
-use Rattle.rules.specs.Store.{Geometry, Store, sizeOf, wordOf, word, isHole, lowestFree, used, owed, fitsPool}
-use Rattle.rules.specs.Edit.{Act, write, copy, clone, allocate, deallocate, Edit, firstSlot, slotCount, Kind, owns, given, shares, reserved, stays, isGiven, kindOf, become, owned, givesBack, pass, plan}
-use Rattle.rules.proofs.PlanLaws.{each-ext, own-slot, InPool}
+use Rattle.rules.specs.Store.{Geometry, Store, sizeOf, wordOf, isHole, used, owed, fitsPool}
+use Rattle.rules.specs.Edit.{Act, write, copy, clone, allocate, deallocate, Edit, firstSlot, slotCount, Kind, owns, given, stays, kindOf, become, givesBack, pass, plan}
+use Rattle.rules.proofs.PlanLaws.{each-ext, InPool}
 use Rattle.tables.specs.Tables.{TableTrue}
 use Rattle.store.specs.declared.edit.Edit as CodeEdit
 use Rattle.store.specs.Edits.{editFrom}
 use Rattle.store.specs.Plan.{Planned, Outside}
-use Rattle.store.specs.Planner.{KindIs, NoBlock, SlotChanged, inPass, only, SlotPassed, Plannable, indexOf, wordsOf, Seen, Passed, EditPlanned}
+use Rattle.store.specs.Planner.{NoBlock, inPass, only, SlotPassed, Plannable, indexOf, wordsOf, Seen, Passed, EditPlanned}
 use Rattle.store.specs.Own.{Undone}
-use Rattle.store.proofs.KindLaws.{edit-inside}
+use Rattle.store.proofs.KindLaws.{edit-inside, become-local, become-length, keeps, keeps-used, stop-used}
 use Rattle.store.proofs.SettleLaws.{outside-refl, outside-trans, saved-is, saved-pool, planned-undone, planned-settled}
-
--- ---- one slot, by its kind
-
-pub become-local : (c : Kind) (ws : List ℕ) (i p : ℕ) → p ≢ i → getD (become c ws i) p 0 ≡ getD ws p 0
-unfolding become
-become-local owns ws i p d = getD-set-other ws i p _ 0 d
-become-local given ws i p d = getD-set-other ws i p _ 0 d
-become-local (shares q) ws i p d = getD-set-other ws i p _ 0 d
-become-local reserved ws i p d = getD-set-other ws i p _ 0 d
-become-local stays ws i p d = refl
-
-pub become-length : (c : Kind) (ws : List ℕ) (i : ℕ) → length (become c ws i) ≡ length ws
-unfolding become
-become-length owns ws i = length-set ws i _
-become-length given ws i = length-set ws i _
-become-length (shares q) ws i = length-set ws i _
-become-length reserved ws i = length-set ws i _
-become-length stays ws i = refl
-
--- kinds that lose no block; no edit has another kind in a pass where a slot takes one
-abbrev keeps : Kind → Bool
-keeps owns = true
-keeps given = false
-keeps (shares p) = false
-keeps reserved = false
-keeps stays = true
-
-keeps-used : (c : Kind) → keeps c ≡ true → (ws : List ℕ) (i : ℕ) → i < length ws → used ws ≤ used (become c ws i)
-unfolding become
-keeps-used owns e ws i h = own-slot ws i h .used-grows
-keeps-used given e ws i h = absurd (true≢false (sym e))
-keeps-used (shares p) e ws i h = absurd (true≢false (sym e))
-keeps-used reserved e ws i h = absurd (true≢false (sym e))
-keeps-used stays e ws i h = le-refl _
-
--- a slot that finds no block: every block is used, and it takes one more
-stop-used : (n : ℕ) (c : Kind) (ws : List ℕ) (i : ℕ) → i < length ws → InPool n ws → NoBlock c ws i n → n < used (become c ws i)
-unfolding become owned
-stop-used n c ws i h pool none =
-    let w : ℕ = getD ws i 0 in
-    let e : owned ws w ≡ word (suc (lowestFree ws)) (w % 2) = rw (none .wants) in
-    rw (none .asked) (omega (arith, own-slot ws i h .in-pool, ap (λ x. x / 2) e, pool i, none .full))
 
 -- ---- slots one after the other
 
@@ -109,18 +66,19 @@ pass-is p g st e ws = each-ext _ _ (slotCount g (e .off) (e .end)) (firstSlot g 
     by true c x i = refl
     by false c x i = refl
 
--- where one slot takes a block, no slot of that pass loses one
+-- a kind that takes a block is one of the pass
+only-owns : (p : Kind → Bool) (c : Kind) → only p c ≡ owns → p owns ≡ true
+only-owns p c h = go (p c) refl h
+  where
+    go : (t : Bool) → p c ≡ t → cond t c stays ≡ owns → p owns ≡ true
+    go true e q = rw q at e
+    go false e q = let z : _≡_ {A = ℕ} 0 1 = cc in absurd (omega arith)
+
+-- where one slot takes a block, every slot of that pass is of such a kind
 owns-keeps : (first : Bool) (g : Geometry) (st : Store) (e : Edit) (k : ℕ) → kindsIn (inPass first) g st e k ≡ owns
     → (j : ℕ) → keeps (kindsIn (inPass first) g st e j) ≡ true
 unfolding kindOf
-owns-keeps true g st e k h j = absurd (early (kindOf g st e k) h)
-  where
-    early : (c : Kind) → only (inPass true) c ≡ owns → ⊥
-    early owns q = let z : _≡_ {A = ℕ} 0 1 = cc in omega arith
-    early given q = let z : _≡_ {A = ℕ} 0 1 = cc in omega arith
-    early (shares p) q = let z : _≡_ {A = ℕ} 0 1 = cc in omega arith
-    early reserved q = let z : _≡_ {A = ℕ} 0 1 = cc in omega arith
-    early stays q = let z : _≡_ {A = ℕ} 0 1 = cc in omega arith
+owns-keeps true g st e k h j = absurd (true≢false (sym (only-owns (inPass true) (kindOf g st e k) h)))
 owns-keeps false g st e k h j = go (e .act) h
   where
     cut : (a b : Bool) → keeps (only (inPass false) (cond a given (cond b stays owns))) ≡ true
@@ -135,14 +93,6 @@ owns-keeps false g st e k h j = go (e .act) h
     go (clone s soff) q = let z : _≡_ {A = ℕ} 0 1 = cc in absurd (omega arith)
     go allocate q = let z : _≡_ {A = ℕ} 0 1 = cc in absurd (omega arith)
     go deallocate q = cut (givesBack g (sizeOf st (e .file)) (e .off) (e .end) j) (isHole (wordOf g (st .words) (e .file) j))
-
--- a slot that is asked for a block passes
-only-owns : (p : Kind → Bool) (c : Kind) → only p c ≡ owns → p owns ≡ true
-only-owns p c h = go (p c) refl h
-  where
-    go : (t : Bool) → p c ≡ t → cond t c stays ≡ owns → p owns ≡ true
-    go true e q = rw q at e
-    go false e q = let z : _≡_ {A = ℕ} 0 1 = cc in absurd (omega arith)
 
 -- ---- the loop: the slots that are left give the pass
 

@@ -4,22 +4,25 @@ use mathlib.Core.Path.{_≡_, refl, sym, ap, _∙_}
 use mathlib.Core.Bool.{Bool, true, false, cond, not, true≢false}
 use mathlib.Core.List.{List}
 use mathlib.Core.Logic.{_≢_}
-use native.Mathlib.Nat.{le-refl, mul-le-mul-right}
+use native.Mathlib.Nat.{le-refl, mul-le-mul-right, div-add-mod'}
 use native.Mathlib.Omega.{arith}
 use lib.ListN.{length, getD, length-set}
 use lib.Seq.{getD-set-other}
+use Rattle.rules.specs.Lists.{ceilDiv}
 use Rattle.rules.specs.Store.{Geometry, Store, sizeOf, wordOf, word, isHole, lowestFree, used}
 use Rattle.rules.specs.Edit.{firstSlot, slotCount, Kind, owns, given, shares, reserved, stays, isGiven, kindOf, become, owned, givesBack}
-use Rattle.rules.proofs.GeometryLaws.{good, block-pos, slots-all}
-use Rattle.rules.proofs.SoundStore.{slots-fit}
+use Rattle.rules.proofs.GeometryLaws.{Good, good, block-pos, slots-all}
+use Rattle.rules.proofs.EditForms.{slots-behind}
+use Rattle.rules.proofs.SoundStore.{slots-fit, ceil-behind, Sound}
+use Rattle.rules.proofs.SoundLaws.{sound-facts}
 use Rattle.rules.proofs.PlanLaws.{own-slot, InPool}
 use Rattle.tables.specs.Tables.{TableTrue, Stored}
 use Rattle.store.specs.declared.edit.Source.{Source}
 use Rattle.store.specs.declared.edit.Act as Code
 use Rattle.store.specs.declared.edit.Edit as CodeEdit
-use Rattle.store.specs.Edits.{editFrom}
+use Rattle.store.specs.Edits.{editFrom, ActKnown, Applies}
 use Rattle.store.specs.Own.{SlotOwned}
-use Rattle.store.specs.Planner.{EditSlots, Plannable, SlotOf, SharesIn, KindIs, indexOf, NoBlock, SlotChanged, inPass, SlotPassed}
+use Rattle.store.specs.Planner.{SourceSlots, EditSlots, Plannable, SlotOf, SharesIn, KindIs, indexOf, NoBlock, SlotChanged, inPass, SlotPassed}
 
 -- ---- where the slots lie
 
@@ -42,6 +45,37 @@ edit-room {g} {e} s =
 
 pub edit-inside : {g : Geometry} {e : CodeEdit.Edit} {ws cs old : List ℕ} → Plannable g e ws cs old → indexOf g e + slotCount g (e .off) (e .end) ≤ length ws
 edit-inside k = omega (arith, edit-room (k .edit), k .slots)
+
+-- where no error forbids an edit of some bytes, it can be planned
+module _ {g : Geometry} {st : Store} {cs : List ℕ} {e : CodeEdit.Edit} {d : List ℕ} (a : Applies g st cs e d) (some : e .off < e .end) where
+  good-geometry : Good g
+  good-geometry = good g (a .known .shaped .geometry)
+
+  sound-store : Sound g st
+  sound-store = sound-facts g (block-pos good-geometry) st (a .known .shaped .lengths) (a .known .sound)
+
+  -- a CLONE's source lies as its target does
+  source-slots : (act : Code.Act) → ActKnown g st (e .file) (e .off) (e .end) d act → SourceSlots g (slotCount g (e .off) (e .end)) act
+  source-slots Code.Act.Write k = tt
+  source-slots (Code.Act.Copy s) k = tt
+  source-slots (Code.Act.Clone s) k =
+      let n : ℕ = e .end - e .off in
+      let end : e .off + n ≡ e .end = omega arith in
+      let count : slotCount g (e .off) (e .end) ≡ ceilDiv n (g .B) = rw end at (slots-behind (block-pos good-geometry) (e .off) n (k .target-even)) in
+      let even : s .off / g .B * g .B ≡ s .off = omega (arith, div-add-mod' (s .off) (g .B), k .source-even) in
+      let room : s .off / g .B + ceilDiv n (g .B) ≤ g .S
+      = ceil-behind (block-pos good-geometry) (s .off / g .B) n (g .S) (omega (arith, k .source .inside, sound-store .fits (s .file) (k .source .file))) in
+      omega (arith, mul-le-mul-right (g .S) (k .source .file))
+  source-slots Code.Act.Allocate k = tt
+  source-slots Code.Act.Deallocate k = tt
+
+  pub applies-plannable : {old : List ℕ} → length old ≡ slotCount g (e .off) (e .end) → Plannable g e (st .words) cs old
+  applies-plannable long = record {
+    edit = record { geometry = a .known .shaped .geometry; file = a .known .file; some = some; fits = a .fits some; source = source-slots (e .act) (a .act) };
+    counted = a .known .counted;
+    slots = sound-store .slots;
+    saves = long;
+  }
 
 -- a CLONE's source slot
 module _ {g : Geometry} {e : CodeEdit.Edit} {k : ℕ} (s : SlotOf g e k) {from : Source} (q : e .act ≡ Code.Act.Clone from) where

@@ -13,3 +13,5 @@ pub mod CopyEdit
 pub mod CutEdit
 pub mod PlanEdits
 pub mod ApplyLaws
+pub mod KindLaws
+pub mod PassLaws

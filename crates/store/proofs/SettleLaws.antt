@@ -17,7 +17,7 @@ use Rattle.rules.proofs.EditSteps.{own, ownUnless, giveBack, skips, planGiveBac
 use Rattle.rules.proofs.PlanLaws.{each-ext, InPool}
 use Rattle.rules.proofs.SlotByteLaws.{Local, own-local}
 use Rattle.tables.specs.Tables.{TableTrue}
-use Rattle.store.specs.Plan.{Planned}
+use Rattle.store.specs.Plan.{Planned, Outside}
 use Rattle.store.specs.Ranges.{RangeDone}
 use Rattle.store.specs.Own.{Undone, SlotOwned, RangeOwned, skipsBy}
 use Rattle.store.proofs.RangeLaws.{range-outside}
@@ -36,11 +36,6 @@ planned-back {planned = planned} {cs = cs} e same b h =
     record { answer = sym f; words-are = rw f b; counted = h }
 
 -- ---- other slots stay
-
--- words that differ from ws at the n slots from i on alone
-pub record Outside (ws : List ℕ) (i n : ℕ) (after : List ℕ) : Type 0 where
-  pub slots : length after ≡ length ws
-  pub same : (p : ℕ) → (p < i) ⊎ (i + n ≤ p) → getD after p 0 ≡ getD ws p 0
 
 pub outside-refl : (ws : List ℕ) (i n : ℕ) → Outside ws i n ws
 outside-refl ws i n = record { slots = refl; same = λ p h. refl }
@@ -99,7 +94,7 @@ module _ (ws : List ℕ) (i n : ℕ) (old : List ℕ) (saved : old ≡ take (i +
         → Planned ws planned false after cs
     planned-undone e same u = planned-back e same (u .words-are ∙ saved-back) (u .counted)
 
-    planned-settled : {planned after cs : List ℕ} {d : Bool} → mid ≡ planned → Planned (splice mid i old) mid d after cs → Planned ws planned d after cs
+    pub planned-settled : {planned after cs : List ℕ} {d : Bool} → mid ≡ planned → Planned (splice mid i old) mid d after cs → Planned ws planned d after cs
     planned-settled e p = rw (saved-back, e) at p
 
   -- all the steps of a plan for these slots, then `settle`

@@ -1,9 +1,10 @@
--- What a plan in place leaves. Contracts cite this record.
-use Prim.Native.Nat.{ℕ}
+-- What a plan in place leaves. Contracts cite these records.
+use Prim.Native.Nat.{ℕ, _+_, _≤_, _<_}
 use mathlib.Core.Path.{_≡_}
 use mathlib.Core.Bool.{Bool, cond}
 use mathlib.Core.List.{List}
-use lib.ListN.{length}
+use mathlib.Core.Logic.{_⊎_}
+use lib.ListN.{length, getD}
 use Rattle.rules.specs.Store.{fitsPool}
 use Rattle.tables.specs.Tables.{TableTrue}
 
@@ -12,3 +13,8 @@ pub record Planned (ws planned : List ℕ) (done : Bool) (after counts : List �
   pub answer : done ≡ fitsPool (length counts) planned
   pub words-are : after ≡ cond (fitsPool (length counts) planned) planned ws
   pub counted : TableTrue after counts
+
+-- words that differ from ws at the n slots from i on alone
+pub record Outside (ws : List ℕ) (i n : ℕ) (after : List ℕ) : Type 0 where
+  pub slots : length after ≡ length ws
+  pub same : (p : ℕ) → (p < i) ⊎ (i + n ≤ p) → getD after p 0 ≡ getD ws p 0

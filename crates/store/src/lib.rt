@@ -9,6 +9,7 @@ mod edit;
 mod edit_plans;
 mod edits;
 mod plan;
+mod planner;
 mod ranges;
 mod read;
 mod seek;

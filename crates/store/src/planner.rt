@@ -1,0 +1,182 @@
+// The plan of any edit, in place: what becomes of each slot of its region, the given-back slots first, then the others.
+ghost use mathlib.Core.Path.{_≡_};
+ghost use mathlib.Core.Bool.{true, cond};
+ghost use Prim.Native.Nat.{_*_, _<_};
+ghost use lib.ListN.{length};
+ghost use Rattle.rules.specs.Store.{goodGeometry, isHole};
+ghost use Rattle.rules.specs.Edit.{given, owns, reserved, shares, stays, givesBack};
+ghost use Rattle.tables.specs.Lent.{geometryOf};
+ghost use Rattle.tables.specs.Tables.{TableTrue};
+ghost use Rattle.store.specs.Edits.{kindFrom};
+ghost use Rattle.store.specs.Planner.{SlotOf, KindIs, SharesIn, SlotChanged, inPass, SlotPassed, Plannable, Passed, EditPlanned};
+use crate::edit::Act;
+use crate::edit::Edit;
+use crate::edit::Kind;
+use crate::plan::own_slot;
+use crate::plan::save_words;
+use crate::plan::settle;
+use crate::plan::undo;
+use crate::ranges::slot_whole;
+use tables::Geometry;
+use tables::set_word;
+
+// What a DEALLOCATE makes of slot k, whose word is w.
+fn cut_kind(g: Geometry, size: usize, off: usize, end: usize, k: usize, w: u32) -> Kind
+    requires { ⌜ (goodGeometry (geometryOf g) ≡ true) × (k < g .slots) ⌝ }
+    ensures { λ r. ⌜ kindFrom r ≡ cond (givesBack (geometryOf g) size off end k) given (cond (isHole w) stays owns) ⌝ }
+{
+    if slot_whole(g, size, off, end, k) {
+        return Kind::Given;
+    }
+    if w / 2 == 0 {
+        return Kind::Stays;
+    }
+    Kind::Owns
+}
+
+// What becomes of slot k of e's file, whose size is `size`; w is the slot's word before the edit.
+fn kind_of(g: Geometry, e: Edit, size: usize, k: usize, w: u32) -> Kind
+    requires { ⌜ SlotOf (geometryOf g) e k ⌝ }
+    ensures { λ r. ⌜ KindIs (geometryOf g) e size k w (kindFrom r) ⌝ }
+{
+    let act = e.act;
+    match act {
+        Act::Write => Kind::Owns,
+        Act::Copy(_) => Kind::Owns,
+        Act::Clone(s) => Kind::Shares(
+            s.file * g.slots + s.off / g.block_size + (k - e.off / g.block_size),
+        ),
+        Act::Allocate => Kind::Reserved,
+        Act::Deallocate => cut_kind(g, size, e.off, e.end, k, w),
+    }
+}
+
+// Slot i takes the block, or the hole, of slot p, and keeps its r.
+fn share_slot(words: &mut [u32], counts: &mut [u32], i: usize, p: usize) -> bool
+    requires { ⌜ TableTrue (now words) (now counts) × ((i < length (now words)) × (p < length (now words))) ⌝ }
+    ensures { λ r. ⌜ SlotChanged (shares p) (now (words .entry)) (now (counts .entry)) i r (now (words .exit)) (now (counts .exit)) ⌝ }
+{
+    let w = 2 * (words[p] / 2) + words[i] % 2;
+    set_word(words, counts, i, w);
+    true
+}
+
+// Sets r in slot i.
+fn reserve_slot(words: &mut [u32], counts: &mut [u32], i: usize) -> bool
+    requires { ⌜ TableTrue (now words) (now counts) × (i < length (now words)) ⌝ }
+    ensures { λ r. ⌜ SlotChanged reserved (now (words .entry)) (now (counts .entry)) i r (now (words .exit)) (now (counts .exit)) ⌝ }
+{
+    let w = 2 * (words[i] / 2) + 1;
+    set_word(words, counts, i, w);
+    true
+}
+
+// Word 0.
+fn give_slot(words: &mut [u32], counts: &mut [u32], i: usize) -> bool
+    requires { ⌜ TableTrue (now words) (now counts) × (i < length (now words)) ⌝ }
+    ensures { λ r. ⌜ SlotChanged given (now (words .entry)) (now (counts .entry)) i r (now (words .exit)) (now (counts .exit)) ⌝ }
+{
+    set_word(words, counts, i, 0);
+    true
+}
+
+// Does to slot i of the table what its kind says. Answers false, and changes nothing, where it takes a block and none is free.
+fn change_slot(words: &mut [u32], counts: &mut [u32], i: usize, kind: Kind) -> bool
+    requires { ⌜ TableTrue (now words) (now counts) × ((i < length (now words)) × SharesIn (length (now words)) (kindFrom kind)) ⌝ }
+    ensures { λ r. ⌜ SlotChanged (kindFrom kind) (now (words .entry)) (now (counts .entry)) i r (now (words .exit)) (now (counts .exit)) ⌝ }
+{
+    match kind {
+        Kind::Owns => own_slot(words, counts, i),
+        Kind::Given => give_slot(words, counts, i),
+        Kind::Shares(p) => share_slot(words, counts, i, p),
+        Kind::Reserved => reserve_slot(words, counts, i),
+        Kind::Stays => true,
+    }
+}
+
+// Whether a slot of that kind is done in the first pass, which gives back, or in the second.
+fn in_pass(first: bool, kind: Kind) -> bool
+    ensures { λ r. ⌜ r ≡ inPass first (kindFrom kind) ⌝ }
+{
+    match kind {
+        Kind::Given => first,
+        Kind::Owns => !first,
+        Kind::Shares(_) => !first,
+        Kind::Reserved => !first,
+        Kind::Stays => !first,
+    }
+}
+
+// One slot of a pass: slot k of e's file, whose word before the edit is w. Answers as change_slot.
+fn pass_slot(
+    g: Geometry,
+    words: &mut [u32],
+    counts: &mut [u32],
+    e: Edit,
+    size: usize,
+    first: bool,
+    k: usize,
+    w: u32,
+) -> bool
+    requires { ⌜ SlotOf (geometryOf g) e k × (TableTrue (now words) (now counts) × (length (now words) ≡ g .files * g .slots)) ⌝ }
+    ensures { λ r. ⌜ SlotPassed (geometryOf g) e size first k w (now (words .entry)) (now (counts .entry)) r (now (words .exit)) (now (counts .exit)) ⌝ }
+{
+    let kind = kind_of(g, e, size, k, w);
+    if !in_pass(first, kind) {
+        return true;
+    }
+    let f = e.file;
+    change_slot(words, counts, f * g.slots + k, kind)
+}
+
+// A pass over the slots of e, whose words before the edit are `old`, in rising order: in the first pass those that are given back, in the
+// second the others. Stops, and answers false, where a slot takes a block and none is free.
+fn pass(
+    g: Geometry,
+    words: &mut [u32],
+    counts: &mut [u32],
+    e: Edit,
+    size: usize,
+    first: bool,
+    old: &[u32],
+) -> bool
+    requires { ⌜ Plannable (geometryOf g) e (now words) (now counts) (now old) ⌝ }
+    ensures { λ r. ⌜ Passed (geometryOf g) e size first (now (old .entry)) (now (words .entry)) r (now (words .exit)) (now (counts .exit)) ⌝ }
+{
+    let off = e.off;
+    let from = off / g.block_size;
+    let mut j = 0;
+    while j < old.len() {
+        if !pass_slot(g, words, counts, e, size, first, from + j, old[j]) {
+            return false;
+        }
+        j += 1;
+    }
+    true
+}
+
+// Plans e in place and saves the words of its slots in `old`. Where the plan does not fit the pool, the words go back.
+pub fn plan(
+    g: Geometry,
+    words: &mut [u32],
+    counts: &mut [u32],
+    e: Edit,
+    size: usize,
+    old: &mut [u32],
+) -> bool
+    requires { ⌜ Plannable (geometryOf g) e (now words) (now counts) (now old) ⌝ }
+    ensures { λ r. ⌜ EditPlanned (geometryOf g) e size (now (words .entry)) r (now (words .exit)) (now (counts .exit)) (now (old .exit)) ⌝ }
+{
+    let f = e.file;
+    let off = e.off;
+    let i = f * g.slots + off / g.block_size;
+    let end = i + old.len();
+    save_words(old, &words[i..end]);
+    // The first pass takes no block, so it does not stop.
+    pass(g, words, counts, e, size, true, old);
+    if !pass(g, words, counts, e, size, false, old) {
+        undo(words, counts, i, old);
+        return false;
+    }
+    settle(words, counts, i, old)
+}

@@ -12,3 +12,4 @@ pub mod CopyBytes
 pub mod CopyEdit
 pub mod CutEdit
 pub mod PlanEdits
+pub mod FillLaws

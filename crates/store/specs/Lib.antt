@@ -5,3 +5,4 @@ pub mod SlotBytes
 pub mod Readable
 pub mod EditPromises
 pub mod Edits
+pub mod Fill

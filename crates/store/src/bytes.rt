@@ -143,7 +143,7 @@ pub fn write_slots(
 }
 
 // Slot k's share of a DEALLOCATE: nothing where the slot is given back or a hole, else zeros at the places from `off` up to `end`.
-fn zero_edge(
+pub fn zero_edge(
     g: Geometry,
     mem: &mut [u8],
     old: u32,

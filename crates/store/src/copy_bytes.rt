@@ -15,7 +15,7 @@ use crate::read::read_bytes;
 use tables::Geometry;
 
 // Slot k's share of a COPY to the places from `off` up to `end`.
-fn copy_slot(
+pub fn copy_slot(
     g: Geometry,
     words: &[u32],
     mem: &mut [u8],

@@ -7,6 +7,7 @@ mod copy_bytes;
 mod deallocate;
 mod edit;
 mod edit_plans;
+mod fill;
 mod plan;
 mod ranges;
 mod read;

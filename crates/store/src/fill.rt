@@ -45,7 +45,7 @@ fn put_slot(
     }
 }
 
-// The bytes of e in the slots of its region, whose words before it were `old`.
+// The bytes of e in the slots of its region, whose words before it were `old`, through a page of at least 4,096 bytes.
 fn put_slots(
     g: Geometry,
     words: &[u32],
@@ -69,7 +69,8 @@ fn put_slots(
     }
 }
 
-// The bytes of e, whose file had that size and whose slots had the words `old` before it. It owns a page of bytes and only lends it.
+// The bytes of e, before which its file had that size and the slots of its region the words `old`. It owns a page and only
+// lends it.
 pub fn put_bytes(
     g: Geometry,
     words: &[u32],

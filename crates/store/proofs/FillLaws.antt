@@ -23,7 +23,7 @@ use Rattle.store.specs.SlotBytes.{Touched, Edge, zeroEdge, SlotCopy}
 use Rattle.store.specs.Fill.{isOwned, fillSlot, PlannedEdit, Fills, Filling, SlotFills}
 use Rattle.store.proofs.StoreLaws.{slot-touched, Storing, storing-start, storing-turn, storing-end, each-from, word-cut}
 use Rattle.store.proofs.CopyBytes.{slot-same, other-block}
-use Rattle.store.proofs.KindLaws.{Alone, plan-long, plan-other, plan-alone}
+use Rattle.store.proofs.AloneLaws.{Alone, plan-long, plan-other, plan-alone}
 
 -- ---- the rules' bytes
 

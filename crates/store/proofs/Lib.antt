@@ -12,5 +12,5 @@ pub mod CopyBytes
 pub mod CopyEdit
 pub mod CutEdit
 pub mod PlanEdits
-pub mod KindLaws
+pub mod AloneLaws
 pub mod FillLaws

@@ -1,69 +1,84 @@
--- An edit applied: what each act asks, and its promise.
-use Prim.Native.Nat.{ℕ, _+_, _-_, _*_, _≤_, _<_}
-use mathlib.Core.Path.{_≡_, refl, sym, ap, subst, _∙_}
-use mathlib.Core.Bool.{Bool, true}
-use mathlib.Core.List.{List}
+-- An edit applied: what its parts ask, and its ways out.
+use Prim.Native.Nat.{ℕ, _+_, _*_, _≤_, _<_, max}
+use mathlib.Core.Path.{_≡_, refl, sym, ap, _∙_}
+use mathlib.Core.Bool.{Bool, true, false, not}
+use mathlib.Core.List.{List, _++_}
 use native.Mathlib.Omega.{arith}
-use lib.ListN.{length}
-use Rattle.rules.specs.Store.{Geometry, Store, sizeOf}
-use Rattle.rules.specs.Edit.{Edit, edited}
-use Rattle.rules.proofs.EditForms.{edited-none}
-use Rattle.store.specs.declared.edit.Source.{Source}
-use Rattle.store.specs.declared.edit.Act as Code
+use borrow.Author.Tests.{not-false}
+use lib.ListN.{length, set, take, drop, length-append}
+use lib.Seq.{length-take-le, take-at}
+use Rattle.rules.specs.Lists.{ceilDiv}
+use Rattle.rules.specs.Store.{Geometry, goodGeometry, Store, sizeOf}
+use Rattle.rules.specs.Edit.{firstSlot, slotCount, plan, edited, editBytes}
+use Rattle.rules.proofs.EditForms.{edited-none, edited-some}
+use Rattle.rules.proofs.GeometryLaws.{Good, good, block-pos, file-most}
+use Rattle.rules.proofs.SoundStore.{Sound, first-before, slots-fit}
 use Rattle.store.specs.declared.edit.Edit as CodeEdit
-use Rattle.store.specs.EditPromises.{EditPromise, WriteKnown, RegionKnown, CutKnown, CloneKnown, CopyKnown}
-use Rattle.store.specs.Edits.{Applies, ActKnown, actFrom, editFrom}
-use Rattle.store.proofs.WriteEdit.{edit-none}
+use Rattle.store.specs.EditPromises.{EditPromise}
+use Rattle.store.specs.Edits.{Applies, editFrom}
+use Rattle.store.specs.Fill.{Fills}
+use Rattle.store.specs.Planner.{Plannable, EditPlanned}
+use Rattle.store.proofs.WriteEdit.{edit-none, sound-store, plan-refused, plan-done}
+use Rattle.store.proofs.KindLaws.{applies-plannable}
+use Rattle.store.proofs.FillLaws.{fills-known}
 
-module _ {g : Geometry} {st : Store} {cs : List ℕ} (e : CodeEdit.Edit) (d : List ℕ) (k : Applies g st cs e d) where
+module _ {g : Geometry} {st : Store} {cs : List ℕ} {e : CodeEdit.Edit} {d : List ℕ} (a : Applies g st cs e d) where
   pub apply-none : e .end ≤ e .off → EditPromise g st (edited g st (editFrom e d)) true st cs
-  apply-none h = edit-none (k .known) _ (edited-none g st (editFrom e d) h)
+  apply-none h = edit-none (a .known) _ (edited-none g st (editFrom e d) h)
 
-  -- the edit with the act and the end as the code names them
-  abbrev named : Code.Act → ℕ → Edit
-  named a end = record { file = e .file; off = e .off; end = end; act = actFrom a (e .off) d }
-
-  pub apply-as : (a : Code.Act) (end : ℕ) → e .act ≡ a → end ≡ e .end → {r : Bool} {after : Store} {cs′ : List ℕ}
-      → EditPromise g st (edited g st (named a end)) r after cs′ → EditPromise g st (edited g st (editFrom e d)) r after cs′
-  apply-as a end q h {r} {after} {cs′} p =
-      subst (λ (x : Edit). EditPromise g st (edited g st x) r after cs′) (ap (λ (x : ℕ). named a x) h ∙ ap (λ (b : Code.Act). named b (e .end)) (sym q)) p
-
-  act-is : (a : Code.Act) → e .act ≡ a → ActKnown g st (e .file) (e .off) (e .end) d a
-  act-is a q = subst (λ (b : Code.Act). ActKnown g st (e .file) (e .off) (e .end) d b) q (k .act)
+  pub file-inside : e .file < length (st .sizes)
+  file-inside = omega (arith, sound-store (a .known) .files, a .known .file)
 
   module _ (some : e .off < e .end) where
-    pub write-end : e .act ≡ Code.Act.Write → e .off + length d ≡ e .end
-    write-end q = sym (act-is Code.Act.Write q)
+    -- what `slot_count` asks
+    pub region-known : (goodGeometry g ≡ true) × ((e .off < e .end) × (e .end ≤ g .S * g .B))
+    region-known = (a .known .shaped .geometry, (some, a .fits some))
 
-    pub write-known : e .act ≡ Code.Act.Write → WriteKnown g st cs (e .file) (e .off) (length d)
-    write-known q = record { known = k .known; fits = λ h. rw (write-end q) (k .fits some) }
+    -- the words to save: of 1,024 the code lends n, as many as e has slots
+    module _ {n : ℕ} (is : n ≡ slotCount g (e .off) (e .end)) where
+      pub saved-room : n ≤ 1024
+      saved-room =
+          let o = good g (a .known .shaped .geometry) in
+          omega (arith, is, o .slots-most, slots-fit g (block-pos o) (e .off) (e .end) some (a .fits some))
 
-    pub copy-known : (s : Source) → e .act ≡ Code.Act.Copy s → CopyKnown g st cs (s .file) (e .file) (s .off) (e .off) (e .end - e .off)
-    copy-known s q =
-        let c = act-is (Code.Act.Copy s) q in
-        record {
-          known = k .known;
-          source = record { file = c .source .file; other = c .other; inside = c .source .inside };
-          fits = λ h. omega (arith, k .fits some);
-        }
+      module _ (saved : List ℕ) (h : length saved ≡ 1024) where
+        pub saved-long : length (take n saved) ≡ n
+        saved-long = length-take-le n saved (rw h saved-room)
 
-    pub clone-known : (s : Source) → e .act ≡ Code.Act.Clone s → CloneKnown g st cs (s .file) (e .file) (s .off) (e .off) (e .end - e .off)
-    clone-known s q =
-        let c = act-is (Code.Act.Clone s) q in
-        record {
-          known = k .known;
-          source = c .source .file;
-          source-even = c .source-even;
-          target-even = c .target-even;
-          inside = c .source .inside;
-          fits = λ h. omega (arith, k .fits some);
-        }
+        pub saved-plannable : Plannable g e (st .words) cs (take n saved)
+        saved-plannable = applies-plannable a some (saved-long ∙ is)
 
-    pub region-known : RegionKnown g st cs (e .file) (e .off) (e .off + (e .end - e .off))
-    region-known = record { known = k .known; some = omega arith; fits = omega (arith, k .fits some) }
+        -- they come back as `old`
+        module _ (old : List ℕ) (kept : length old ≡ length (take n saved)) where
+          pub old-room : n ≤ length (old ++ drop n saved)
+          old-room = rw (length-append old (drop n saved)) (omega (arith, kept, saved-long))
 
-    pub cut-known : e .act ≡ Code.Act.Deallocate → CutKnown g st cs (e .file) (e .end)
-    cut-known q = record { known = k .known; cut = act-is Code.Act.Deallocate q }
+          pub old-lent : n ≡ length (take n (old ++ drop n saved))
+          old-lent = sym (ap length (take-at old (drop n saved) n (kept ∙ saved-long)) ∙ kept ∙ saved-long)
 
-    pub some-end : e .off + (e .end - e .off) ≡ e .end
-    some-end = omega arith
+          pub old-back : take n (old ++ drop n saved) ≡ old
+          old-back = take-at old (drop n saved) n (kept ∙ saved-long)
+
+    -- after the plan
+    module _ {done : Bool} {after cs′ old : List ℕ} (same : length cs′ ≡ length cs) {size : ℕ} (size-is : size ≡ sizeOf st (e .file))
+        (p : EditPlanned g e size (st .words) done after cs′ old) where
+      edit-is : edited g st (editFrom e d)
+          ≡ record { sizes = set (st .sizes) (e .file) (max (sizeOf st (e .file)) (e .end)); words = plan g st (editFrom e d); mem = editBytes g st (editFrom e d) }
+      edit-is = edited-some g st (editFrom e d) some
+
+      pub apply-refused : not done ≡ true → EditPromise g st (edited g st (editFrom e d)) false (record { sizes = st .sizes; words = after; mem = st .mem }) cs′
+      apply-refused = plan-refused (a .known) edit-is same (p .planned (st .sizes) (st .mem) d (sym size-is))
+
+      module _ (e₁ : not done ≡ false) where
+        after-is : after ≡ plan g st (editFrom e d)
+        after-is =
+            let q = p .planned (st .sizes) (st .mem) d (sym size-is) in
+            rw (← q .answer, not-false done e₁) at (q .words-are)
+
+        pub apply-fills : Fills g st e d size old after (st .mem)
+        apply-fills =
+            fills-known a some size-is (p .saved) after-is (rw (sym (same ∙ a .known .blocks)) (p .planned (st .sizes) (st .mem) d (sym size-is) .counted .pool))
+
+        pub apply-done : {sizes′ mem′ : List ℕ} → sizes′ ≡ set (st .sizes) (e .file) (max (sizeOf st (e .file)) (e .end)) → mem′ ≡ editBytes g st (editFrom e d)
+            → EditPromise g st (edited g st (editFrom e d)) true (record { sizes = sizes′; words = after; mem = mem′ }) cs′
+        apply-done = plan-done (a .known) edit-is same (p .planned (st .sizes) (st .mem) d (sym size-is)) e₁

@@ -78,7 +78,7 @@ module _ (off end : ℕ) (byte byte′ : ℕ → ℕ) (same : (i : ℕ) → off 
       go (no n) v = rw (outside off end p (inl (omega (arith, n))))
       go (yes l) (no n) = rw (outside off end p (inr (omega (arith, n))))
 
-  slot-same : (g : Geometry) (old new k : ℕ) (m : List ℕ) → storeSlot g (within off end) byte old new m k ≡ storeSlot g (within off end) byte′ old new m k
+  pub slot-same : (g : Geometry) (old new k : ℕ) (m : List ℕ) → storeSlot g (within off end) byte old new m k ≡ storeSlot g (within off end) byte′ old new m k
   unfolding storeSlot
   slot-same g old new k m = ap (splice m (pred (new / 2) * g .B)) (overlay-same (slotBytes g m old) (k * g .B))
 

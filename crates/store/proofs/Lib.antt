@@ -15,3 +15,5 @@ pub mod PlanEdits
 pub mod ApplyLaws
 pub mod KindLaws
 pub mod PassLaws
+pub mod AloneLaws
+pub mod FillLaws

@@ -6,3 +6,4 @@ pub mod Readable
 pub mod EditPromises
 pub mod Edits
 pub mod Planner
+pub mod Fill

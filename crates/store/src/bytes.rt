@@ -6,7 +6,7 @@ ghost use Rattle.xdr.specs.Bytes.{splice};
 ghost use Rattle.tables.specs.Lent.{geometryOf};
 ghost use Rattle.rules.specs.Edit.{within, slotBytes, storeSlot};
 ghost use Rattle.store.specs.SlotBytes.{Starts, Backed, Touched, AllTouched, storeSlots, zeroEdge, Edge, AllEdges, zeroSlots};
-use crate::ranges::slot_stays;
+use crate::planner::slot_stays;
 use tables::Geometry;
 
 // The bytes at `from` over those at `to`, through `page`, as many as it has.
@@ -121,29 +121,8 @@ pub fn zero_slot(g: Geometry, mem: &mut [u8], old: u32, new: u32, k: usize, off:
     zero_range(g, mem, old, new, a - p, b - a);
 }
 
-// The slots from `first` on, whose words go from those of `old` to those of `new`, in a WRITE of d at `off`.
-pub fn write_slots(
-    g: Geometry,
-    mem: &mut [u8],
-    old: &[u32],
-    new: &[u32],
-    first: usize,
-    off: usize,
-    d: &[u8],
-)
-    requires { ⌜ AllTouched (geometryOf g) (length (now mem)) (now old) (now new) first off (off + length (now d)) ⌝ }
-    ensures { λ _. ⌜ now (mem .exit) ≡ storeSlots (geometryOf g) (within off (off + length (now (d .entry)))) (λ p. getD (now (d .entry)) (p - off) 0)
-        first (now (old .entry)) (now (new .entry)) (now (mem .entry)) 0 (length (now (old .entry))) ⌝ }
-{
-    let mut i = 0;
-    while i < old.len() {
-        write_slot(g, mem, old[i], new[i], first + i, off, d);
-        i += 1;
-    }
-}
-
 // Slot k's share of a DEALLOCATE: nothing where the slot is given back or a hole, else zeros at the places from `off` up to `end`.
-fn zero_edge(
+pub fn zero_edge(
     g: Geometry,
     mem: &mut [u8],
     old: u32,
@@ -160,25 +139,4 @@ fn zero_edge(
         return;
     }
     zero_slot(g, mem, old, new, k, off, end);
-}
-
-// The slots from `first` on, whose words go from those of `old` to those of `new`, in a DEALLOCATE from `off` up to `end`.
-pub fn zero_edges(
-    g: Geometry,
-    mem: &mut [u8],
-    old: &[u32],
-    new: &[u32],
-    first: usize,
-    size: usize,
-    off: usize,
-    end: usize,
-)
-    requires { ⌜ AllEdges (geometryOf g) (length (now mem)) (now old) (now new) first size off end ⌝ }
-    ensures { λ _. ⌜ now (mem .exit) ≡ zeroSlots (geometryOf g) size off end first (now (old .entry)) (now (new .entry)) (now (mem .entry)) 0 (length (now (old .entry))) ⌝ }
-{
-    let mut i = 0;
-    while i < old.len() {
-        zero_edge(g, mem, old[i], new[i], first + i, size, off, end);
-        i += 1;
-    }
 }

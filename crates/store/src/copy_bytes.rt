@@ -15,7 +15,7 @@ use crate::read::read_bytes;
 use tables::Geometry;
 
 // Slot k's share of a COPY to the places from `off` up to `end`.
-fn copy_slot(
+pub fn copy_slot(
     g: Geometry,
     words: &[u32],
     mem: &mut [u8],
@@ -45,63 +45,4 @@ fn copy_slot(
         &mut page[..n],
     );
     store_part(g, mem, old, new, a - p, &page[..n]);
-}
-
-// The slots from `first` on, whose words go from those of `old` to those of `new`, in that COPY. The source's bytes are those before it all along.
-pub fn copy_slots(
-    g: Geometry,
-    words: &[u32],
-    mem: &mut [u8],
-    from: Source,
-    old: &[u32],
-    new: &[u32],
-    first: usize,
-    off: usize,
-    end: usize,
-    page: &mut [u8],
-)
-    requires { ⌜ AllCopies (geometryOf g) (now words) (now mem) (from .file) (from .off) (now old) (now new) first off end (length (now page)) ⌝ }
-    ensures { λ _. ⌜ ((sizes : List ℕ)
-        → now (mem .exit) ≡ storeSlots (geometryOf g) (within off end)
-        (λ p. byteAt (geometryOf g) (record { sizes = sizes; words = now (words .entry); mem = now (mem .entry) }) (from .file) (from .off + (p - off)))
-        first (now (old .entry)) (now (new .entry)) (now (mem .entry)) 0 (length (now (old .entry)))) ⌝ }
-{
-    let mut i = 0;
-    while i < old.len() {
-        copy_slot(
-            g,
-            words,
-            mem,
-            from,
-            old[i],
-            new[i],
-            first + i,
-            off,
-            end,
-            page,
-        );
-        i += 1;
-    }
-}
-
-// The same, with a page of its own.
-pub fn copy_range(
-    g: Geometry,
-    words: &[u32],
-    mem: &mut [u8],
-    from: Source,
-    old: &[u32],
-    new: &[u32],
-    first: usize,
-    off: usize,
-    end: usize,
-)
-    requires { ⌜ AllCopies (geometryOf g) (now words) (now mem) (from .file) (from .off) (now old) (now new) first off end 4096 ⌝ }
-    ensures { λ _. ⌜ ((sizes : List ℕ)
-        → now (mem .exit) ≡ storeSlots (geometryOf g) (within off end)
-        (λ p. byteAt (geometryOf g) (record { sizes = sizes; words = now (words .entry); mem = now (mem .entry) }) (from .file) (from .off + (p - off)))
-        first (now (old .entry)) (now (new .entry)) (now (mem .entry)) 0 (length (now (old .entry)))) ⌝ }
-{
-    let mut page = [0u8; 4096];
-    copy_slots(g, words, mem, from, old, new, first, off, end, &mut page);
 }

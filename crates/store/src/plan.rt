@@ -82,38 +82,3 @@ pub fn own_slot(words: &mut [u32], counts: &mut [u32], i: usize) -> bool
     set_word(words, counts, i, taken_word(b, w));
     true
 }
-
-// Gives the n slots from i on unshared blocks, up to the first that finds none. Answers how many have one.
-pub fn own_range(words: &mut [u32], counts: &mut [u32], i: usize, n: usize) -> usize
-    requires { ⌜ TableTrue (now words) (now counts) × (i + n ≤ length (now words)) ⌝ }
-    ensures { λ r. ⌜ RangeOwned (λ k. false) (now (words .entry)) i 0 n r (now (words .exit)) (now (counts .exit)) ⌝ }
-{
-    let mut k = 0;
-    while k < n {
-        if !own_slot(words, counts, i + k) {
-            return k;
-        }
-        k += 1;
-    }
-    k
-}
-
-// Plans a WRITE into the n slots from i on and saves their words in old. Where the plan does not fit the pool, the words go back.
-pub fn plan_write(
-    words: &mut [u32],
-    counts: &mut [u32],
-    i: usize,
-    n: usize,
-    old: &mut [u32],
-) -> bool
-    requires { ⌜ TableTrue (now words) (now counts) × ((i + n ≤ length (now words)) × (length (now old) ≡ n)) ⌝ }
-    ensures { λ r. ⌜ WritePlanned (now (words .entry)) i n r (now (words .exit)) (now (counts .exit)) (now (old .exit)) ⌝ }
-{
-    let end = i + n;
-    save_words(old, &words[i..end]);
-    if own_range(words, counts, i, n) < n {
-        undo(words, counts, i, old);
-        return false;
-    }
-    settle(words, counts, i, old)
-}

@@ -1,6 +1,6 @@
 // The plan of any edit, in place: what becomes of each slot of its region, the given-back slots first, then the others.
 ghost use mathlib.Core.Path.{_≡_};
-ghost use mathlib.Core.Bool.{true, cond};
+ghost use mathlib.Core.Bool.{true, cond, _||_};
 ghost use Prim.Native.Nat.{_*_, _<_};
 ghost use lib.ListN.{length};
 ghost use Rattle.rules.specs.Store.{goodGeometry, isHole};
@@ -16,9 +16,37 @@ use crate::plan::own_slot;
 use crate::plan::save_words;
 use crate::plan::settle;
 use crate::plan::undo;
-use crate::ranges::slot_whole;
 use tables::Geometry;
 use tables::set_word;
+
+// Whether the bytes of slot k below the size, at least one, all lie in the region.
+fn slot_whole(g: Geometry, size: usize, off: usize, end: usize, k: usize) -> bool
+    requires { ⌜ (goodGeometry (geometryOf g) ≡ true) × (k < g .slots) ⌝ }
+    ensures { λ r. ⌜ r ≡ givesBack (geometryOf g) size off end k ⌝ }
+{
+    let start = k * g.block_size;
+    if start < off {
+        return false;
+    }
+    if size <= start {
+        return false;
+    }
+    if size <= end {
+        return true;
+    }
+    start + g.block_size <= end
+}
+
+// Whether slot k, whose word was w, keeps no block of its own: it is givesBack, or a hole.
+pub fn slot_stays(g: Geometry, w: u32, size: usize, off: usize, end: usize, k: usize) -> bool
+    requires { ⌜ (goodGeometry (geometryOf g) ≡ true) × (k < g .slots) ⌝ }
+    ensures { λ r. ⌜ r ≡ (givesBack (geometryOf g) size off end k || isHole w) ⌝ }
+{
+    if slot_whole(g, size, off, end, k) {
+        return true;
+    }
+    w / 2 == 0
+}
 
 // What a DEALLOCATE makes of slot k, whose word is w.
 fn cut_kind(g: Geometry, size: usize, off: usize, end: usize, k: usize, w: u32) -> Kind

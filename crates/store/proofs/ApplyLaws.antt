@@ -1,18 +1,17 @@
 -- An edit applied: what its parts ask, and its ways out.
 use Prim.Native.Nat.{ℕ, _+_, _*_, _≤_, _<_, max}
-use mathlib.Core.Path.{_≡_, refl, sym, ap, _∙_}
+use mathlib.Core.Path.{_≡_, sym, ap, _∙_}
 use mathlib.Core.Bool.{Bool, true, false, not}
 use mathlib.Core.List.{List, _++_}
 use native.Mathlib.Omega.{arith}
 use borrow.Author.Tests.{not-false}
 use lib.ListN.{length, set, take, drop, length-append}
 use lib.Seq.{length-take-le, take-at}
-use Rattle.rules.specs.Lists.{ceilDiv}
 use Rattle.rules.specs.Store.{Geometry, goodGeometry, Store, sizeOf}
-use Rattle.rules.specs.Edit.{firstSlot, slotCount, plan, edited, editBytes}
+use Rattle.rules.specs.Edit.{slotCount, plan, edited, editBytes}
 use Rattle.rules.proofs.EditForms.{edited-none, edited-some}
-use Rattle.rules.proofs.GeometryLaws.{Good, good, block-pos, file-most}
-use Rattle.rules.proofs.SoundStore.{Sound, first-before, slots-fit}
+use Rattle.rules.proofs.GeometryLaws.{good, block-pos}
+use Rattle.rules.proofs.SoundStore.{slots-fit}
 use Rattle.store.specs.declared.edit.Edit as CodeEdit
 use Rattle.store.specs.EditPromises.{EditPromise}
 use Rattle.store.specs.Edits.{Applies, editFrom}

@@ -1,7 +1,7 @@
 -- The bytes of an edit: what each act asks of its leaf, and the loop over the slots.
-use Prim.Native.Nat.{ℕ, _+_, _-_, _*_, _/_, _%_, _≤_, _<_}
+use Prim.Native.Nat.{ℕ, _+_, _*_, _/_, _%_, _≤_, _<_, _-_}
 use mathlib.Core.Path.{_≡_, refl, sym, ap, subst, _∙_}
-use mathlib.Core.Bool.{Bool, true, false, cond, not, _||_}
+use mathlib.Core.Bool.{Bool, true, false, cond, true≢false}
 use mathlib.Core.List.{List}
 use mathlib.Core.Logic.{_≢_, _⊎_, inl, inr}
 use native.Mathlib.Nat.{add-zero, mod-lt, mul-le-mul-right}
@@ -9,8 +9,8 @@ use native.Mathlib.Omega.{arith}
 use lib.ListN.{length, getD, take, drop, length-drop}
 use lib.Seq.{length-take-le}
 use Rattle.rules.specs.Lists.{each}
-use Rattle.rules.specs.Store.{Geometry, Store, isHole, sizeOf, wordOf, slotByte, byteAt}
-use Rattle.rules.specs.Edit.{Edit, Kind, owns, given, shares, reserved, stays, within, firstSlot, slotCount, givesBack, kindOf, plan, storeSlot, newByte, editBytes}
+use Rattle.rules.specs.Store.{Geometry, Store, sizeOf, wordOf, slotByte, byteAt}
+use Rattle.rules.specs.Edit.{Edit, Kind, owns, given, shares, reserved, stays, within, firstSlot, slotCount, kindOf, plan, storeSlot, newByte, editBytes}
 use Rattle.rules.proofs.PlanLaws.{each-ext, InPool}
 use Rattle.rules.proofs.GeometryLaws.{Good, good, block-pos}
 use Rattle.rules.proofs.SoundStore.{Sound, div-lt, apart, in-file, slots-fit}
@@ -18,11 +18,13 @@ use Rattle.rules.proofs.SoundLaws.{sound-facts}
 use Rattle.store.specs.declared.edit.Act as Code
 use Rattle.store.specs.declared.edit.Source.{Source}
 use Rattle.store.specs.declared.edit.Edit as CodeEdit
-use Rattle.store.specs.Edits.{actFrom, editFrom, ActKnown, Applies}
-use Rattle.store.specs.SlotBytes.{Touched, Edge, zeroEdge, SlotCopy}
-use Rattle.store.specs.Fill.{isOwned, fillSlot, PlannedEdit, Fills, Filling, SlotFills}
+use Rattle.store.specs.Edits.{actFrom, editFrom, isOwned, ActKnown, Applies}
+use Rattle.store.specs.Planner.{SlotOf, KindIs}
+use Rattle.store.specs.SlotBytes.{Touched, SlotCopy}
+use Rattle.store.specs.Fill.{fillSlot, PlannedEdit, Fills, Filling, SlotFills, SlotOwns}
 use Rattle.store.proofs.StoreLaws.{slot-touched, Storing, storing-start, storing-turn, storing-end, each-from, word-cut}
 use Rattle.store.proofs.CopyBytes.{slot-same, other-block}
+use Rattle.store.proofs.KindLaws.{applies-slots}
 use Rattle.store.proofs.AloneLaws.{Alone, plan-long, plan-other, plan-alone}
 
 -- ---- the rules' bytes
@@ -55,9 +57,7 @@ fills-known a some s o p pool = record {
   planned = record {
     shaped = a .known .shaped;
     sound = a .known .sound;
-    file = a .known .file;
-    some = some;
-    fits = a .fits some;
+    edit = applies-slots a some;
     act = a .act;
     size-is = s;
     words-are = p;
@@ -75,10 +75,10 @@ module _ {g : Geometry} {st : Store} {e : CodeEdit.Edit} {d : List ℕ} {size : 
   snd = sound-facts g (block-pos good-plan) st (h .shaped .lengths) (h .sound)
 
   slots-in : firstSlot g (e .off) + slotCount g (e .off) (e .end) ≤ g .S
-  slots-in = slots-fit g (block-pos good-plan) (e .off) (e .end) (h .some) (h .fits)
+  slots-in = slots-fit g (block-pos good-plan) (e .off) (e .end) (h .edit .some) (h .edit .fits)
 
   inside : e .file * g .S + (firstSlot g (e .off) + slotCount g (e .off) (e .end)) ≤ length (st .words)
-  inside = omega (arith, slots-in, snd .slots, mul-le-mul-right (g .S) (h .file))
+  inside = omega (arith, slots-in, snd .slots, mul-le-mul-right (g .S) (h .edit .file))
 
   words-long : length words ≡ g .F * g .S
   words-long = ap length (h .words-are) ∙ plan-long g st (editFrom e d) ∙ snd .slots
@@ -99,7 +99,7 @@ module _ {g : Geometry} {st : Store} {e : CodeEdit.Edit} {d : List ℕ} {size : 
   slot-below = omega (arith, slots-in known, h .to)
 
   pub slot-index : e .file * g .S + k < length words
-  slot-index = omega (arith, words-long known, in-file g (e .file) k (known .file) slot-below)
+  slot-index = omega (arith, words-long known, in-file g (e .file) k (known .edit .file) slot-below)
 
   bytes-long : length mem ≡ g .N * g .B
   bytes-long = h .filling .long ∙ snd known .bytes
@@ -111,7 +111,7 @@ module _ {g : Geometry} {st : Store} {e : CodeEdit.Edit} {d : List ℕ} {size : 
 
     owns-touched : Touched g (length mem) w (wordOf g words (e .file) k) k (e .off) (e .end)
     owns-touched =
-        slot-touched g (length mem) w (wordOf g words (e .file) k) k (e .off) (e .end) (good-plan known) (omega (arith, bytes-long)) (known .some) (known .fits) (h .from) (h .to)
+        slot-touched g (length mem) w (wordOf g words (e .file) k) k (e .off) (e .end) (good-plan known) (omega (arith, bytes-long)) (known .edit .some) (known .edit .fits) (h .from) (h .to)
         (rw (h .word-is) (snd known .pool (e .file * g .S + k))) (known .pool (e .file * g .S + k)) (alone .block)
 
     -- bytes that are the edit's in its region
@@ -202,40 +202,36 @@ module _ {g : Geometry} {st : Store} {e : CodeEdit.Edit} {d : List ℕ} {size : 
             → byteAt g (record { sizes = st .sizes; words = words; mem = mem }) (s .file) (s .off + (p - e .off)) ≡ newByte g st (editFrom e d) p
         same p l u = h .filling .others (s .file) (s .off + (p - e .off)) (act-known is .source .file) (act-known is .other) (omega (arith, source-fits)) ∙ byte-is is p
 
-  pub clone-fills : {s : Source} → e .act ≡ Code.Act.Clone s → mem ≡ fillSlot g st (editFrom e d) mem k
+  module _ (is : e .act ≡ Code.Act.Deallocate) (o : kindOf g st (editFrom e d) k ≡ owns) where
+    pub cut-asks : Touched g (length mem) w (wordOf g words (e .file) k) k (e .off) (e .end)
+    cut-asks = owns-touched o
+
+    pub cut-fills : {m : List ℕ} → m ≡ storeSlot g (within (e .off) (e .end)) (λ i. 0) w (wordOf g words (e .file) k) mem k → m ≡ fillSlot g st (editFrom e d) mem k
+    cut-fills = fill-owned o (λ i. 0) (λ i l u. byte-is is i)
+
+  -- CLONE and ALLOCATE give no slot a block of its own
+  pub clone-owns : {s : Source} → e .act ≡ Code.Act.Clone s → kindOf g st (editFrom e d) k ≡ owns → ⊥
   unfolding kindOf
-  clone-fills is = fill-none (ap isOwned (kind-is is refl))
+  clone-owns is o = true≢false (sym (ap isOwned o) ∙ ap isOwned (kind-is is refl))
 
-  pub allocate-fills : e .act ≡ Code.Act.Allocate → mem ≡ fillSlot g st (editFrom e d) mem k
+  pub allocate-owns : e .act ≡ Code.Act.Allocate → kindOf g st (editFrom e d) k ≡ owns → ⊥
   unfolding kindOf
-  allocate-fills is = fill-none (ap isOwned (kind-is is refl))
+  allocate-owns is o = true≢false (sym (ap isOwned o) ∙ ap isOwned (kind-is is refl))
 
-  module _ (is : e .act ≡ Code.Act.Deallocate) where
-    cut-kind : {t : Bool} → givesBack g size (e .off) (e .end) k || isHole w ≡ t → isOwned (kindOf g st (editFrom e d) k) ≡ not t
-    unfolding kindOf
-    cut-kind {t} p =
-        ap isOwned (kind-is is refl) ∙ go (givesBack g (sizeOf st (e .file)) (e .off) (e .end) k) (isHole (wordOf g (st .words) (e .file) k))
-        ∙ ap not (rw (known .size-is, h .word-is) at p)
-      where
-        go : (a b : Bool) → isOwned (cond a given (cond b stays owns)) ≡ not (a || b)
-        go true b = refl
-        go false true = refl
-        go false false = refl
+  -- ---- by the kind
 
-    cut-owns : givesBack g size (e .off) (e .end) k || isHole w ≡ false → kindOf g st (editFrom e d) k ≡ owns
-    cut-owns p = owned-is (kindOf g st (editFrom e d) k) (cut-kind p)
+  pub slot-of : SlotOf g e k
+  slot-of = record { edit = known .edit; from = h .from; to = h .to }
 
-    pub cut-asks : Edge g (length mem) w (wordOf g words (e .file) k) k size (e .off) (e .end)
-    cut-asks = record { geometry = known .shaped .geometry; slot = slot-below; touched = λ p. owns-touched (cut-owns p) }
+  module _ {c : Kind} (n : KindIs g e size k w c) where
+    is-kind : c ≡ kindOf g st (editFrom e d) k
+    is-kind = n .is st d (sym (known .size-is)) (sym (h .word-is))
 
-    pub cut-fills : {m : List ℕ} → m ≡ zeroEdge g size (e .off) (e .end) w (wordOf g words (e .file) k) mem k → m ≡ fillSlot g st (editFrom e d) mem k
-    unfolding zeroEdge
-    cut-fills {m} s = go (givesBack g size (e .off) (e .end) k || isHole w) refl s
-      where
-        go : (t : Bool) → givesBack g size (e .off) (e .end) k || isHole w ≡ t
-            → m ≡ cond t mem (storeSlot g (within (e .off) (e .end)) (λ i. 0) w (wordOf g words (e .file) k) mem k) → m ≡ fillSlot g st (editFrom e d) mem k
-        go true p s = s ∙ fill-none (cut-kind p)
-        go false p s = fill-owned (cut-owns p) (λ i. 0) (λ i l u. byte-is is i) s
+    pub left-fills : isOwned c ≡ false → mem ≡ fillSlot g st (editFrom e d) mem k
+    left-fills o = fill-none (ap isOwned (sym is-kind) ∙ o)
+
+    pub owns-slot : isOwned c ≡ true → SlotOwns g st e d size words mem k w
+    owns-slot o = record { slot = h; kind = owned-is (kindOf g st (editFrom e d) k) (ap isOwned (sym is-kind) ∙ o) }
 
   -- the other files' bytes, after its share
   filled-others : {m : List ℕ} → m ≡ fillSlot g st (editFrom e d) mem k → (f i : ℕ) → f < g .F → f ≢ e .file → i < g .S * g .B

@@ -1,5 +1,5 @@
 -- What becomes of a slot: its kind, by the edit's act, and what a kind does to the slot words.
-use Prim.Native.Nat.{ℕ, suc, _+_, _-_, _*_, _/_, _%_, _≤_, _<_}
+use Prim.Native.Nat.{ℕ, suc, _+_, _*_, _/_, _%_, _≤_, _<_, _-_}
 use mathlib.Core.Path.{_≡_, refl, sym, ap, _∙_}
 use mathlib.Core.Bool.{Bool, true, false, cond, not, true≢false}
 use mathlib.Core.List.{List}
@@ -21,7 +21,6 @@ use Rattle.store.specs.declared.edit.Source.{Source}
 use Rattle.store.specs.declared.edit.Act as Code
 use Rattle.store.specs.declared.edit.Edit as CodeEdit
 use Rattle.store.specs.Edits.{editFrom, ActKnown, Applies}
-use Rattle.store.specs.Own.{SlotOwned}
 use Rattle.store.specs.Planner.{SourceSlots, EditSlots, Plannable, SlotOf, SharesIn, KindIs, indexOf, NoBlock, SlotChanged, inPass, SlotPassed}
 
 -- ---- where the slots lie
@@ -69,9 +68,12 @@ module _ {g : Geometry} {st : Store} {cs : List ℕ} {e : CodeEdit.Edit} {d : Li
   source-slots Code.Act.Allocate k = tt
   source-slots Code.Act.Deallocate k = tt
 
+  pub applies-slots : EditSlots g e
+  applies-slots = record { geometry = a .known .shaped .geometry; file = a .known .file; some = some; fits = a .fits some; source = source-slots (e .act) (a .act) }
+
   pub applies-plannable : {old : List ℕ} → length old ≡ slotCount g (e .off) (e .end) → Plannable g e (st .words) cs old
   applies-plannable long = record {
-    edit = record { geometry = a .known .shaped .geometry; file = a .known .file; some = some; fits = a .fits some; source = source-slots (e .act) (a .act) };
+    edit = applies-slots;
     counted = a .known .counted;
     slots = sound-store .slots;
     saves = long;
@@ -142,14 +144,6 @@ module _ {ws cs : List ℕ} {i : ℕ} where
     pub changed-reserved : Stored ws i (word (getD ws i 0 / 2) 1) after cs′ → SlotChanged reserved ws cs i true after cs′
     unfolding become
     changed-reserved s = changed-done (s .words-are) (s .counted)
-
-    pub changed-owns : {d : Bool} → SlotOwned false ws cs i d after cs′ → SlotChanged owns ws cs i d after cs′
-    unfolding become
-    changed-owns s = record {
-      words-are = s .words-are;
-      counted = s .counted;
-      stopped = λ d. record { asked = refl; wants = s .stopped d .wants; full = s .stopped d .full };
-    }
 
 -- ---- what a kind does to the words
 

@@ -4,14 +4,10 @@ pub mod OwnLaws
 pub mod StoreLaws
 pub mod PlaceLaws
 pub mod ScanLaws
-pub mod EdgeLaws
 pub mod WriteEdit
 pub mod SettleLaws
 pub mod SurveyKnown
 pub mod CopyBytes
-pub mod CopyEdit
-pub mod CutEdit
-pub mod PlanEdits
 pub mod ApplyLaws
 pub mod KindLaws
 pub mod PassLaws

@@ -1,8 +1,8 @@
 -- For the code that stores a part of a block: an overlay of consecutive places is a splice, and what WRITE stores there is a part of its data.
-use Prim.Native.Nat.{ℕ, suc, _+_, _-_, _≤_, _<_}
+use Prim.Native.Nat.{ℕ, suc, _+_, _≤_, _<_, _-_}
 use mathlib.Core.Path.{_≡_, refl, sym, ap, _∙_}
 use mathlib.Core.Bool.{Bool, cond}
-use mathlib.Core.List.{List, [], _∷_}
+use mathlib.Core.List.{List, _∷_, []}
 use mathlib.Core.Logic.{inl, inr}
 use native.Mathlib.Decide.{decLe, decLt}
 use native.Mathlib.Nat.{add-sub-of-le}

@@ -1,5 +1,5 @@
 -- A pass over the slots of an edit: it changes no other slot, and one that stops for want of a block does not fit the pool.
-use Prim.Native.Nat.{ℕ, zero, suc, _+_, _-_, _*_, _≤_, _<_}
+use Prim.Native.Nat.{ℕ, zero, suc, _+_, _*_, _≤_, _<_, _-_}
 use mathlib.Core.Path.{_≡_, refl, sym, ap, _∙_}
 use mathlib.Core.Bool.{Bool, true, false, cond, not, true≢false}
 use mathlib.Core.List.{List}
@@ -17,9 +17,8 @@ use Rattle.rules.proofs.PlanLaws.{each-ext, InPool}
 use Rattle.tables.specs.Tables.{TableTrue}
 use Rattle.store.specs.declared.edit.Edit as CodeEdit
 use Rattle.store.specs.Edits.{editFrom}
-use Rattle.store.specs.Plan.{Planned, Outside}
+use Rattle.store.specs.Plan.{Planned, Outside, Undone}
 use Rattle.store.specs.Planner.{NoBlock, inPass, only, SlotPassed, Plannable, indexOf, wordsOf, Seen, Passed, EditPlanned}
-use Rattle.store.specs.Own.{Undone}
 use Rattle.store.proofs.KindLaws.{edit-inside, become-local, become-length, keeps, keeps-used, stop-used}
 use Rattle.store.proofs.SettleLaws.{outside-refl, outside-trans, saved-is, saved-pool, planned-undone, planned-settled}
 

@@ -1,9 +1,9 @@
 -- For the code that stores an edit's bytes: what it does to a block, a slot's share of a region, and the loop over the slots.
-use Prim.Native.Nat.{ℕ, zero, suc, pred, _+_, _-_, _*_, _/_, _^_, _≤_, _<_, max, min}
+use Prim.Native.Nat.{ℕ, zero, suc, pred, _+_, _*_, _/_, _≤_, _<_, max, min, _-_}
 use mathlib.Core.Path.{_≡_, refl, sym, ap, _∙_}
 use mathlib.Core.List.{List, _++_}
 use mathlib.Core.Logic.{_≢_, inl, inr}
-use native.Mathlib.Nat.{add-zero, sub-zero, add-suc, add-sub-cancel-left, mul-le-mul-right, le-mul-of-pos-right}
+use native.Mathlib.Nat.{sub-zero, add-suc, add-sub-cancel-left, mul-le-mul-right}
 use native.Mathlib.Numerals.{add-one}
 use native.Mathlib.Decide.{decLe, decLt}
 use native.Mathlib.Omega.{arith}
@@ -14,17 +14,15 @@ use lib.Seq.{length-take-le, take-at, drop-at, drop-drop, getD-take, getD-drop}
 use Rattle.xdr.specs.Bytes.{splice}
 use Rattle.xdr.proofs.BytesLaws.{length-splice, put-splice, put-zeroed}
 use Rattle.rules.specs.Lists.{tabulate, each}
-use Rattle.rules.specs.Store.{Geometry, Store}
+use Rattle.rules.specs.Store.{Geometry}
 use Rattle.rules.specs.Edit.{within, firstSlot, slotCount, slotBytes, overlay, storeSlot}
-use Rattle.rules.proofs.EditSteps.{storeAt, planWrite, writeBytes}
 use Rattle.rules.proofs.GeometryLaws.{Good, block-pos, file-most}
 use Rattle.rules.proofs.SoundStore.{slot-bytes}
 use Rattle.rules.proofs.SlotByteLaws.{slot-long}
 use Rattle.rules.proofs.WriteLaws.{outside, inside}
 use Rattle.rules.proofs.ReadLaws.{tab-zeros}
-use Rattle.store.specs.SlotBytes.{Starts, Backed, Touched, AllTouched, storeSlots}
+use Rattle.store.specs.SlotBytes.{Starts, Backed, Touched}
 use Rattle.store.proofs.PartLaws.{overlay-ext, overlay-splice, write-part}
-use Rattle.rules.proofs.PlanLaws.{InPool}
 
 -- ---- splices
 
@@ -150,12 +148,6 @@ write-share g m d old new k off a b h ha hb =
 
 -- ---- the slots in order
 
--- the code's number of a slot fits
-pub slot-number : {g : Geometry} {len old new k off end : ℕ} → Touched g len old new k off end → k < 2 ^ 64
-slot-number {g} {len} {old} {new} {k} {off} {end} h =
-    let pos : 0 < g .B = omega (arith, h .backed .block) in
-    omega (arith, le-mul-of-pos-right k pos, h .before, h .small)
-
 -- a slot of a region, with words that name blocks of the pool
 pub slot-touched : (g : Geometry) (len old new k off end : ℕ) → Good g → g .N * g .B ≤ len → off < end → end ≤ g .S * g .B
     → firstSlot g off ≤ k → k < firstSlot g off + slotCount g off end → old / 2 ≤ g .N → new / 2 ≤ g .N → 1 ≤ new / 2 → Touched g len old new k off end
@@ -174,15 +166,6 @@ slot-touched g len old new k off end good room some fits l u op np held =
       before = at .1;
       small = omega (arith, file-most g good, good .block-most);
     }
-
--- all of them
-pub all-touched : (g : Geometry) (len : ℕ) (olds news : List ℕ) (off end : ℕ) → Good g → g .N * g .B ≤ len → off < end → end ≤ g .S * g .B
-    → length olds ≡ slotCount g off end → length news ≡ length olds → InPool (g .N) olds → InPool (g .N) news
-    → ((j : ℕ) → j < length news → 1 ≤ getD news j 0 / 2) → AllTouched g len olds news (firstSlot g off) off end
-all-touched g len olds news off end good room some fits count same op np held = record {
-  same = same;
-  slot = λ j h. slot-touched g len _ _ _ off end good room some fits (omega arith) (omega (arith, count)) (op j) (np j) (held j (omega (arith, same)));
-}
 
 -- a loop over slots, i of n done: the steps that are left give the whole run's bytes
 pub record Storing (step : List ℕ → ℕ → List ℕ) (n : ℕ) (m₀ m : List ℕ) (i : ℕ) : Type 0 where
@@ -217,33 +200,3 @@ pub word-cut : (ws : List ℕ) (at k n j : ℕ) → j < n → getD ws (at + (k +
 word-cut ws at k n j h =
     let place : at + k + j ≡ at + (k + j) = omega arith in
     sym (getD-take n (drop (at + k) ws) j 0 h ∙ getD-drop (at + k) ws j 0 ∙ ap (λ i. getD ws i 0) place)
-
--- the bytes of a WRITE, from the words of its slots alone
-pub write-bytes-is : (g : Geometry) (st : Store) (f off end : ℕ) (byte : ℕ → ℕ)
-    → writeBytes g st f off end byte
-    ≡ storeSlots g (within off end) byte (firstSlot g off)
-    (take (slotCount g off end) (drop (f * g .S + firstSlot g off) (st .words)))
-    (take (slotCount g off end) (drop (f * g .S + firstSlot g off) (planWrite g (st .words) f off end)))
-    (st .mem) 0 (slotCount g off end)
-unfolding writeBytes storeSlots storeAt
-write-bytes-is g st f off end byte =
-    rw (add-zero k) at (each-from (storeAt g at (within off end) byte ws ws′) (λ x j. storeSlot g (within off end) byte (getD (cut ws) j 0) (getD (cut ws′) j 0) x (k + j))
-    k n 0 (st .mem) (λ x j l. rw (word-cut ws at k n j (omega arith), word-cut ws′ at k n j (omega arith))))
-  where
-    k : ℕ
-    k = firstSlot g off
-
-    n : ℕ
-    n = slotCount g off end
-
-    at : ℕ
-    at = f * g .S
-
-    ws : List ℕ
-    ws = st .words
-
-    ws′ : List ℕ
-    ws′ = planWrite g (st .words) f off end
-
-    cut : List ℕ → List ℕ
-    cut l = take n (drop (at + k) l)

@@ -1,25 +1,19 @@
 -- The bytes of an edit, after its plan. Contracts cite these.
 use Prim.Native.Nat.{ℕ, _+_, _*_, _≤_, _<_}
 use mathlib.Core.Path.{_≡_}
-use mathlib.Core.Bool.{Bool, true, false, cond}
+use mathlib.Core.Bool.{true, cond}
 use mathlib.Core.List.{List}
 use mathlib.Core.Logic.{_≢_}
 use lib.ListN.{length, take, drop}
 use Rattle.rules.specs.Store.{Geometry, Store, sizeOf, wordOf, byteAt, sound}
-use Rattle.rules.specs.Edit.{Edit, Kind, owns, given, shares, reserved, stays, within, firstSlot, slotCount, kindOf, plan, storeSlot, newByte}
+use Rattle.rules.specs.Edit.{Edit, owns, within, firstSlot, slotCount, kindOf, plan, storeSlot, newByte}
 use Rattle.rules.proofs.PlanLaws.{InPool}
 use Rattle.tables.specs.Tables.{Shaped}
 use Rattle.store.specs.declared.edit.Edit as CodeEdit
-use Rattle.store.specs.Edits.{editFrom, ActKnown}
+use Rattle.store.specs.Edits.{editFrom, isOwned, ActKnown}
+use Rattle.store.specs.Planner.{EditSlots}
 
 -- ---- one slot of the region, as `editBytes` has it
-
-abbrev pub isOwned : Kind → Bool
-isOwned owns = true
-isOwned given = false
-isOwned (shares p) = false
-isOwned reserved = false
-isOwned stays = false
 
 unfoldable pub fillSlot : Geometry → Store → Edit → List ℕ → ℕ → List ℕ
 fillSlot g st e m k = cond (isOwned (kindOf g st e k))
@@ -31,9 +25,7 @@ fillSlot g st e m k = cond (isOwned (kindOf g st e k))
 pub record PlannedEdit (g : Geometry) (st : Store) (e : CodeEdit.Edit) (d : List ℕ) (size : ℕ) (words : List ℕ) : Type 0 where
   pub shaped : Shaped g st
   pub sound : sound g st ≡ true
-  pub file : e .file < g .F
-  pub some : e .off < e .end
-  pub fits : e .end ≤ g .S * g .B
+  pub edit : EditSlots g e
   pub act : ActKnown g st (e .file) (e .off) (e .end) d (e .act)
   pub size-is : size ≡ sizeOf st (e .file)
   pub words-are : words ≡ plan g st (editFrom e d)
@@ -58,3 +50,8 @@ pub record SlotFills (g : Geometry) (st : Store) (e : CodeEdit.Edit) (d : List �
   pub from : firstSlot g (e .off) ≤ k
   pub to : k < firstSlot g (e .off) + slotCount g (e .off) (e .end)
   pub word-is : w ≡ wordOf g (st .words) (e .file) k
+
+-- and is to have a block of its own
+pub record SlotOwns (g : Geometry) (st : Store) (e : CodeEdit.Edit) (d : List ℕ) (size : ℕ) (words mem : List ℕ) (k w : ℕ) : Type 0 where
+  pub slot : SlotFills g st e d size words mem k w
+  pub kind : kindOf g st (editFrom e d) k ≡ owns

@@ -1,6 +1,4 @@
 pub mod Plan
-pub mod Ranges
-pub mod Own
 pub mod SlotBytes
 pub mod Readable
 pub mod EditPromises

@@ -5,6 +5,7 @@ use mathlib.Core.Bool.{Bool, cond}
 use mathlib.Core.List.{List}
 use mathlib.Core.Logic.{_⊎_}
 use lib.ListN.{length, getD}
+use Rattle.xdr.specs.Bytes.{splice}
 use Rattle.rules.specs.Store.{fitsPool}
 use Rattle.tables.specs.Tables.{TableTrue}
 
@@ -18,3 +19,8 @@ pub record Planned (ws planned : List ℕ) (done : Bool) (after counts : List �
 pub record Outside (ws : List ℕ) (i n : ℕ) (after : List ℕ) : Type 0 where
   pub slots : length after ≡ length ws
   pub same : (p : ℕ) → (p < i) ⊎ (i + n ≤ p) → getD after p 0 ≡ getD ws p 0
+
+-- the words old stored from slot i on, the table still true
+pub record Undone (ws : List ℕ) (i : ℕ) (old after counts : List ℕ) : Type 0 where
+  pub words-are : after ≡ splice ws i old
+  pub counted : TableTrue after counts

@@ -1,12 +1,11 @@
 // An edit's bytes: the block of each touched slot gets the old slot's bytes, with the new ones over them.
 ghost use mathlib.Core.Path.{_≡_};
-ghost use Prim.Native.Nat.{pred, max, min, _+_, _-_, _*_, _/_, _^_, _<_, _≤_};
+ghost use Prim.Native.Nat.{pred, max, min, _+_, _*_, _/_, _^_, _<_, _≤_, _-_};
 ghost use lib.ListN.{length, getD, take, drop, replicate};
 ghost use Rattle.xdr.specs.Bytes.{splice};
 ghost use Rattle.tables.specs.Lent.{geometryOf};
 ghost use Rattle.rules.specs.Edit.{within, slotBytes, storeSlot};
-ghost use Rattle.store.specs.SlotBytes.{Starts, Backed, Touched, AllTouched, storeSlots, zeroEdge, Edge, AllEdges, zeroSlots};
-use crate::planner::slot_stays;
+ghost use Rattle.store.specs.SlotBytes.{Starts, Backed, Touched};
 use tables::Geometry;
 
 // The bytes at `from` over those at `to`, through `page`, as many as it has.
@@ -119,24 +118,4 @@ pub fn zero_slot(g: Geometry, mem: &mut [u8], old: u32, new: u32, k: usize, off:
     let a = later(off, p);
     let b = earlier(end, p + g.block_size);
     zero_range(g, mem, old, new, a - p, b - a);
-}
-
-// Slot k's share of a DEALLOCATE: nothing where the slot is given back or a hole, else zeros at the places from `off` up to `end`.
-pub fn zero_edge(
-    g: Geometry,
-    mem: &mut [u8],
-    old: u32,
-    new: u32,
-    k: usize,
-    size: usize,
-    off: usize,
-    end: usize,
-)
-    requires { ⌜ Edge (geometryOf g) (length (now mem)) old new k size off end ⌝ }
-    ensures { λ _. ⌜ now (mem .exit) ≡ zeroEdge (geometryOf g) size off end old new (now (mem .entry)) k ⌝ }
-{
-    if slot_stays(g, old, size, off, end, k) {
-        return;
-    }
-    zero_slot(g, mem, old, new, k, off, end);
 }

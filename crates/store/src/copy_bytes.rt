@@ -6,7 +6,7 @@ ghost use lib.ListN.{length};
 ghost use Rattle.tables.specs.Lent.{geometryOf};
 ghost use Rattle.rules.specs.Store.{byteAt};
 ghost use Rattle.rules.specs.Edit.{within, storeSlot};
-ghost use Rattle.store.specs.SlotBytes.{SlotCopy, AllCopies, storeSlots};
+ghost use Rattle.store.specs.SlotBytes.{SlotCopy};
 use crate::bytes::earlier;
 use crate::bytes::later;
 use crate::bytes::store_part;

@@ -1,7 +1,7 @@
 // The one call that edits: the plan, and where it fits the pool the bytes and the size.
 ghost use mathlib.Core.Path.{_≡_};
 ghost use mathlib.Core.Bool.{true};
-ghost use Prim.Native.Nat.{max, _*_, _<_, _≤_};
+ghost use Prim.Native.Nat.{max, _*_, _<_, _≤_, _-_};
 ghost use lib.ListN.{length, getD, set};
 ghost use Rattle.rules.specs.Store.{goodGeometry};
 ghost use Rattle.rules.specs.Edit.{slotCount, edited};

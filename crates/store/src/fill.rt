@@ -1,21 +1,51 @@
 // The bytes of an edit, in the slots of its region, once their words are planned.
 ghost use mathlib.Core.Path.{_≡_};
-ghost use Prim.Native.Nat.{_≤_};
+ghost use Prim.Native.Nat.{ℕ, _≤_};
 ghost use lib.ListN.{length};
 ghost use Rattle.rules.specs.Store.{Store};
 ghost use Rattle.rules.specs.Edit.{editBytes};
 ghost use Rattle.tables.specs.Lent.{geometryOf};
 ghost use Rattle.store.specs.Edits.{editFrom};
-ghost use Rattle.store.specs.Fill.{fillSlot, Fills, SlotFills};
+ghost use Rattle.store.specs.Fill.{fillSlot, Fills, SlotFills, SlotOwns};
 use crate::bytes::write_slot;
-use crate::bytes::zero_edge;
+use crate::bytes::zero_slot;
 use crate::copy_bytes::copy_slot;
 use crate::edit::Act;
 use crate::edit::Edit;
+use crate::planner::is_owned;
+use crate::planner::kind_of;
 use tables::Geometry;
 
-// Slot k's share of e's bytes: nothing unless the slot has a block of its own. w is its word before the edit, `words` are
-// the planned ones.
+// The share of slot k, which is to have a block of its own. w is its word before the edit, `words` are the planned ones.
+fn put_owned(
+    g: Geometry,
+    words: &[u32],
+    mem: &mut [u8],
+    e: Edit,
+    k: usize,
+    w: u32,
+    d: &[u8],
+    page: &mut [u8],
+)
+    requires { ⌜ ((st : Store) × ((size : ℕ) × SlotOwns (geometryOf g) st e (now d) size (now words) (now mem) k w)) × (4096 ≤ length (now page)) ⌝ }
+    ensures { λ _. ⌜ ((st : Store) (size : ℕ) → SlotOwns (geometryOf g) st e (now (d .entry)) size (now (words .entry)) (now (mem .entry)) k w
+        → now (mem .exit) ≡ fillSlot (geometryOf g) st (editFrom e (now (d .entry))) (now (mem .entry)) k) ⌝ }
+{
+    let f = e.file;
+    let off = e.off;
+    let end = e.end;
+    let new = words[f * g.slots + k];
+    let act = e.act;
+    match act {
+        Act::Write => write_slot(g, mem, w, new, k, off, d),
+        Act::Copy(s) => copy_slot(g, words, mem, s, w, new, k, off, end, page),
+        Act::Clone(_) => {}
+        Act::Allocate => {}
+        Act::Deallocate => zero_slot(g, mem, w, new, k, off, end),
+    }
+}
+
+// Slot k's share of e's bytes: nothing unless the slot is to have a block of its own.
 fn put_slot(
     g: Geometry,
     words: &[u32],
@@ -31,18 +61,10 @@ fn put_slot(
     ensures { λ _. ⌜ ((st : Store) → SlotFills (geometryOf g) st e (now (d .entry)) size (now (words .entry)) (now (mem .entry)) k w
         → now (mem .exit) ≡ fillSlot (geometryOf g) st (editFrom e (now (d .entry))) (now (mem .entry)) k) ⌝ }
 {
-    let f = e.file;
-    let off = e.off;
-    let end = e.end;
-    let new = words[f * g.slots + k];
-    let act = e.act;
-    match act {
-        Act::Write => write_slot(g, mem, w, new, k, off, d),
-        Act::Copy(s) => copy_slot(g, words, mem, s, w, new, k, off, end, page),
-        Act::Clone(_) => {}
-        Act::Allocate => {}
-        Act::Deallocate => zero_edge(g, mem, w, new, k, size, off, end),
+    if !is_owned(kind_of(g, e, size, k, w)) {
+        return;
     }
+    put_owned(g, words, mem, e, k, w, d, page);
 }
 
 // The bytes of e in the slots of its region, whose words before it were `old`, through a page of at least 4,096 bytes.

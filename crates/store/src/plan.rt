@@ -1,13 +1,13 @@
 // Plans in place: slots get unshared blocks one by one, the plan is judged against the pool, and one that does not fit is undone.
 ghost use mathlib.Core.Path.{_≡_};
-ghost use mathlib.Core.Bool.{false};
 ghost use Prim.Native.Nat.{suc, _+_, _%_, _<_, _≤_};
 ghost use lib.ListN.{length};
 ghost use Rattle.xdr.specs.Bytes.{splice};
 ghost use Rattle.rules.specs.Store.{word, fitsPool};
+ghost use Rattle.rules.specs.Edit.{owns};
 ghost use Rattle.tables.specs.Tables.{TableTrue};
-ghost use Rattle.store.specs.Plan.{Planned};
-ghost use Rattle.store.specs.Own.{Undone, SlotOwned, RangeOwned, WritePlanned};
+ghost use Rattle.store.specs.Plan.{Planned, Undone};
+ghost use Rattle.store.specs.Planner.{SlotChanged};
 ghost use Rattle.rules.proofs.PlanLaws.{InPool};
 use tables::lowest_free;
 use tables::owed_slots;
@@ -69,7 +69,7 @@ fn taken_word(b: usize, w: u32) -> u32
 // Gives slot i an unshared block: the one it has, or the lowest free one. Answers false, and changes nothing, where there is none.
 pub fn own_slot(words: &mut [u32], counts: &mut [u32], i: usize) -> bool
     requires { ⌜ TableTrue (now words) (now counts) × (i < length (now words)) ⌝ }
-    ensures { λ r. ⌜ SlotOwned false (now (words .entry)) (now (counts .entry)) i r (now (words .exit)) (now (counts .exit)) ⌝ }
+    ensures { λ r. ⌜ SlotChanged owns (now (words .entry)) (now (counts .entry)) i r (now (words .exit)) (now (counts .exit)) ⌝ }
 {
     let w = words[i];
     if !takes_block(w, counts) {

@@ -1,13 +1,13 @@
 // The plan of any edit, in place: what becomes of each slot of its region, the given-back slots first, then the others.
 ghost use mathlib.Core.Path.{_≡_};
-ghost use mathlib.Core.Bool.{true, cond, _||_};
+ghost use mathlib.Core.Bool.{true, cond};
 ghost use Prim.Native.Nat.{_*_, _<_};
 ghost use lib.ListN.{length};
 ghost use Rattle.rules.specs.Store.{goodGeometry, isHole};
 ghost use Rattle.rules.specs.Edit.{given, owns, reserved, shares, stays, givesBack};
 ghost use Rattle.tables.specs.Lent.{geometryOf};
 ghost use Rattle.tables.specs.Tables.{TableTrue};
-ghost use Rattle.store.specs.Edits.{kindFrom};
+ghost use Rattle.store.specs.Edits.{kindFrom, isOwned};
 ghost use Rattle.store.specs.Planner.{SlotOf, KindIs, SharesIn, SlotChanged, inPass, SlotPassed, Plannable, Passed, EditPlanned};
 use crate::edit::Act;
 use crate::edit::Edit;
@@ -37,17 +37,6 @@ fn slot_whole(g: Geometry, size: usize, off: usize, end: usize, k: usize) -> boo
     start + g.block_size <= end
 }
 
-// Whether slot k, whose word was w, keeps no block of its own: it is givesBack, or a hole.
-pub fn slot_stays(g: Geometry, w: u32, size: usize, off: usize, end: usize, k: usize) -> bool
-    requires { ⌜ (goodGeometry (geometryOf g) ≡ true) × (k < g .slots) ⌝ }
-    ensures { λ r. ⌜ r ≡ (givesBack (geometryOf g) size off end k || isHole w) ⌝ }
-{
-    if slot_whole(g, size, off, end, k) {
-        return true;
-    }
-    w / 2 == 0
-}
-
 // What a DEALLOCATE makes of slot k, whose word is w.
 fn cut_kind(g: Geometry, size: usize, off: usize, end: usize, k: usize, w: u32) -> Kind
     requires { ⌜ (goodGeometry (geometryOf g) ≡ true) × (k < g .slots) ⌝ }
@@ -63,7 +52,7 @@ fn cut_kind(g: Geometry, size: usize, off: usize, end: usize, k: usize, w: u32) 
 }
 
 // What becomes of slot k of e's file, whose size is `size`; w is the slot's word before the edit.
-fn kind_of(g: Geometry, e: Edit, size: usize, k: usize, w: u32) -> Kind
+pub fn kind_of(g: Geometry, e: Edit, size: usize, k: usize, w: u32) -> Kind
     requires { ⌜ SlotOf (geometryOf g) e k ⌝ }
     ensures { λ r. ⌜ KindIs (geometryOf g) e size k w (kindFrom r) ⌝ }
 {
@@ -132,6 +121,19 @@ fn in_pass(first: bool, kind: Kind) -> bool
         Kind::Shares(_) => !first,
         Kind::Reserved => !first,
         Kind::Stays => !first,
+    }
+}
+
+// Whether a slot of that kind is to have a block of its own.
+pub fn is_owned(kind: Kind) -> bool
+    ensures { λ r. ⌜ r ≡ isOwned (kindFrom kind) ⌝ }
+{
+    match kind {
+        Kind::Owns => true,
+        Kind::Given => false,
+        Kind::Shares(_) => false,
+        Kind::Reserved => false,
+        Kind::Stays => false,
     }
 }
 

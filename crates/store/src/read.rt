@@ -1,7 +1,7 @@
 // A file's bytes, and the pieces of READ_PLUS.
 ghost use mathlib.Core.Path.{_≡_};
 ghost use mathlib.Core.List.{List};
-ghost use Prim.Native.Nat.{ℕ, _+_, _-_, _%_, _<_, _≤_, min};
+ghost use Prim.Native.Nat.{ℕ, _+_, _%_, _<_, _≤_, min, _-_};
 ghost use lib.ListN.{length};
 ghost use Rattle.xdr.specs.Bytes.{Written};
 ghost use Rattle.xdr.specs.Encode.{opaque, opaqueSize};

@@ -1,107 +1,52 @@
-use native.Mathlib.Omega.{arith}
+use mathlib.Core.Path.{sym, _∙_}
+use borrow.Author.Tests.{not-true, not-false}
+use Rattle.store.proofs.FillLaws.{slot-of, left-fills, owns-slot}
 use borrow.Author.Needs.{needs}
-use Rattle.store.proofs.FillLaws.{slot-index, write-asks, write-fills, copy-asks, copy-fills, clone-fills, allocate-fills, cut-asks, cut-fills}
 use Rattle.store.proofs.fill.put_slot.Statement.{statement}
 use Rattle.store.proofs.fill.put_slot.Tie as tie
 
-mul-new : tie.Need-mul-new
-mul-new c = omega (arith, slot-index (c .before .before .before .before .before .pre .0 .1))
+kind-of-requires : tie.Need-kind-of-requires
+kind-of-requires c κs = slot-of (c .before .before .before .before .pre .0 .1)
 
-add-new : tie.Need-add-new
-add-new c = omega (arith, slot-index (c .before .before .before .before .before .pre .0 .1))
+is-owned-requires : tie.Need-is-owned-requires
+is-owned-requires c κs = search needs
 
-mul-new-2 : tie.Need-mul-new-2
-mul-new-2 c = omega (arith, slot-index (c .before .before .before .before .before .pre .0 .1))
+returns : tie.Need-returns
+returns c =
+    let o = c .before in
+    let k = o .before in
+    λ st h. left-fills h (k .kind-of .ensures) (sym (o .is-owned .ensures) ∙ not-true _ (c .if1 .taken))
 
-shared-slice-read-new : tie.Need-shared-slice-read-new
-shared-slice-read-new c = slot-index (c .before .before .before .before .before .before .pre .0 .1)
-
-enum-told : tie.Need-enum-told
-enum-told c = search needs
-
-write-slot-requires : tie.Need-write-slot-requires
-write-slot-requires c κs =
-    let t = c .before in
-    write-asks (t .before .before .before .before .before .before .before .before .pre .0 .1) (t .enum-told .given .1)
-
-enum-known-act : tie.Need-enum-known-act
-enum-known-act c = search needs
-
-copy-slot-requires : tie.Need-copy-slot-requires
-copy-slot-requires c κs =
-    let t = c .before .before .before in
-    let s = t .before .before .before .before .before .before .before .before in
-    copy-asks (s .pre .0 .1) (t .act .given .1) (s .pre .1)
-
-enum-told-2 : tie.Need-enum-told-2
-enum-told-2 c = search needs
-
-enum-told-3 : tie.Need-enum-told-3
-enum-told-3 c = search needs
-
-enum-told-4 : tie.Need-enum-told-4
-enum-told-4 c = search needs
-
-zero-edge-requires : tie.Need-zero-edge-requires
-zero-edge-requires c κs =
-    let t = c .before in
-    cut-asks (t .before .before .before .before .before .before .before .before .pre .0 .1) (t .enum-told4 .given .1)
+put-owned-requires : tie.Need-put-owned-requires
+put-owned-requires c κs =
+    let i = c .before .before in
+    let o = i .before in
+    let k = o .before in
+    let s = k .before .before .before .before .before in
+    ((s .pre .0 .0, (_, owns-slot (s .pre .0 .1) (k .kind-of .ensures) (sym (o .is-owned .ensures) ∙ not-false _ (i .if1 .left)))), s .pre .1)
 
 same-length : tie.Need-same-length
 same-length c = search needs
 
-returns : tie.Need-returns
-returns c =
-    let w = c .before .before in
-    λ st h. write-fills h (w .before .before .enum-told .given .1) (w .write-slot .ensures)
-
 same-length-2 : tie.Need-same-length-2
 same-length-2 c = search needs
-
-same-length-3 : tie.Need-same-length-3
-same-length-3 c = search needs
 
 returns-2 : tie.Need-returns-2
 returns-2 c =
     let w = c .before .before .before .before in
-    λ st h. copy-fills h (w .before .before .before .before .act .given .1) (w .copy-slot .ensures)
-
-returns-3 : tie.Need-returns-3
-returns-3 c = λ st h. clone-fills h (c .enum-told2 .given .1)
-
-returns-4 : tie.Need-returns-4
-returns-4 c = λ st h. allocate-fills h (c .enum-told3 .given .1)
-
-same-length-4 : tie.Need-same-length-4
-same-length-4 c = search needs
-
-returns-5 : tie.Need-returns-5
-returns-5 c =
-    let w = c .before .before in
-    λ st h. cut-fills h (w .before .before .enum-told4 .given .1) (w .zero-edge .ensures)
+    let i = w .before .before .before in
+    let o = i .before in
+    let k = o .before in
+    λ st h. w .put-owned .ensures st _ (owns-slot h (k .kind-of .ensures) (sym (o .is-owned .ensures) ∙ not-false _ (i .if1 .left)))
 
 pub put-slot-spec : {M : Type 1} → statement M
 put-slot-spec =
     tie.close
     (tie.spec
-    mul-new
-    add-new
-    mul-new-2
-    shared-slice-read-new
-    enum-told
-    write-slot-requires
-    enum-known-act
-    copy-slot-requires
-    enum-told-2
-    enum-told-3
-    enum-told-4
-    zero-edge-requires
-    same-length
+    kind-of-requires
+    is-owned-requires
     returns
+    put-owned-requires
+    same-length
     same-length-2
-    same-length-3
-    returns-2
-    returns-3
-    returns-4
-    same-length-4
-    returns-5)
+    returns-2)

@@ -1,4 +1,4 @@
-use Rattle.store.proofs.KindLaws.{changed-owns, changed-stays}
+use Rattle.store.proofs.KindLaws.{changed-stays}
 use borrow.Author.Needs.{needs}
 use Rattle.store.proofs.planner.change_slot.Statement.{statement}
 use Rattle.store.proofs.planner.change_slot.Tie as tie
@@ -41,7 +41,7 @@ same-length-2 c = search needs
 returns : tie.Need-returns
 returns c =
     let o = c .before .before .before .before in
-    rw (o .before .before .before .enum-told .given .1) (changed-owns (o .own-slot .ensures))
+    rw (o .before .before .before .enum-told .given .1) (o .own-slot .ensures)
 
 same-length-3 : tie.Need-same-length-3
 same-length-3 c = search needs

@@ -10,7 +10,7 @@ use lib.ListN.{getD, set}
 use lib.Seq.{getD-set-other}
 use Rattle.rules.specs.Lists.{each, ceilDiv}
 use Rattle.rules.specs.Store.{Geometry, Store, word, isHole, sizeOf, wordOf, byteAt}
-use Rattle.rules.specs.Edit.{Edit, owns, given, shares, reserved, stays, within, firstSlot, slotCount, givesBack, isGiven, kindOf, become, pass, plan, storeSlot, editBytes, edited, writing, copying, cloning, allocating, deallocating}
+use Rattle.rules.specs.Edit.{Edit, owns, given, shares, reserved, stays, within, firstSlot, slotCount, givesBack, isGiven, isOwned, kindOf, become, pass, plan, storeSlot, fillSlot, editBytes, edited, writing, copying, cloning, allocating, deallocating}
 use Rattle.rules.proofs.EditSteps.{own, share, reserve, giveBack, storeAt, planWrite, writeBytes, planAllocate, planClone, planGiveBack, skips, planDeallocate, zeroBytes}
 use Rattle.rules.proofs.PlanLaws.{each-ext}
 
@@ -45,7 +45,7 @@ module _ (g : Geometry) (st : Store) (f off end : ℕ) (new : ℕ → ℕ) where
   plan-write = ap (λ ws. each (own (f * g .S)) ws (firstSlot g off) (slotCount g off end)) (each-id (slotCount g off end) (firstSlot g off) (st .words))
 
   pub bytes-write : editBytes g st (writing f off end new) ≡ writeBytes g st f off end new
-  unfolding editBytes kindOf writeBytes storeAt
+  unfolding editBytes fillSlot kindOf writeBytes storeAt
   bytes-write = ap (λ ws. each (storeAt g (f * g .S) (within off end) new (st .words) ws) (st .mem) (firstSlot g off) (slotCount g off end)) plan-write
 
   pub write-is : off < end → edited g st (writing f off end new)
@@ -55,7 +55,7 @@ module _ (g : Geometry) (st : Store) (f off end : ℕ) (new : ℕ → ℕ) where
 -- until it keeps holes, COPY is a WRITE of the source's bytes
 pub copy-is-write : (g : Geometry) (st : Store) (f off end s soff : ℕ)
     → edited g st (copying f off end s soff) ≡ edited g st (writing f off end (λ p. byteAt g st s (soff + (p - off))))
-unfolding edited plan pass kindOf editBytes
+unfolding edited plan pass kindOf editBytes fillSlot
 copy-is-write g st f off end s soff = refl
 
 -- ---- ALLOCATE
@@ -67,7 +67,7 @@ module _ (g : Geometry) (st : Store) (f off end : ℕ) where
 
   pub allocate-is : off < end → edited g st (allocating f off end)
       ≡ record { sizes = set (st .sizes) f (max (sizeOf st f) end); words = planAllocate g (st .words) f off end; mem = st .mem }
-  unfolding editBytes kindOf
+  unfolding editBytes fillSlot kindOf
   allocate-is h = edited-some g st (allocating f off end) h ∙ rw (plan-allocate, each-id (slotCount g off end) (firstSlot g off) (st .mem))
 
 -- ---- CLONE
@@ -98,7 +98,7 @@ module _ (g : Geometry) (pos : 0 < g .B) (st : Store) (s f soff off n : ℕ) (de
 
   pub clone-is : 0 < n → edited g st (cloning f off (off + n) s soff)
       ≡ record { sizes = set (st .sizes) f (max (sizeOf st f) (off + n)); words = planClone g (st .words) s f soff off n; mem = st .mem }
-  unfolding editBytes kindOf
+  unfolding editBytes fillSlot kindOf
   clone-is h =
       edited-some g st (cloning f off (off + n) s soff) (omega arith) ∙ rw (plan-clone, each-id (slotCount g off (off + n)) (firstSlot g off) (st .mem))
 
@@ -147,20 +147,15 @@ module _ (g : Geometry) (st : Store) (f off end : ℕ) where
       by false false ws k = refl
 
   bytes-deallocate : editBytes g st (deallocating f off end) ≡ zeroBytes g st f off end
-  unfolding editBytes kindOf zeroBytes storeAt skips planGiveBack
+  unfolding editBytes fillSlot kindOf zeroBytes storeAt skips planGiveBack
   bytes-deallocate = each-ext _ _ (slotCount g off end) (firstSlot g off) (st .mem) (λ m k l u. by k (gone k) refl (hole k) m)
     where
       ws′ : List ℕ
       ws′ = planDeallocate g (st .words) f (sizeOf st f) off end
 
       by : (k : ℕ) (a : Bool) → gone k ≡ a → (b : Bool) (m : List ℕ)
-          → elim (cond a given (cond b stays owns)) [
-            | owns ↦ storeSlot g (within off end) (λ p. 0) (wordOf g (st .words) f k) (wordOf g (plan g st (deallocating f off end)) f k) m k
-            | given ↦ m
-            | shares p ↦ m
-            | reserved ↦ m
-            | stays ↦ m
-          ]
+          → cond (isOwned (cond a given (cond b stays owns)))
+          (storeSlot g (within off end) (λ p. 0) (wordOf g (st .words) f k) (wordOf g (plan g st (deallocating f off end)) f k) m k) m
           ≡ cond (a || b) m (storeSlot g (within off end) (λ p. 0) (getD (planGiveBack g (st .words) f (sizeOf st f) off end) (f * g .S + k) 0) (getD ws′ (f * g .S + k) 0) m k)
       by k true h b m = refl
       by k false h true m = refl

@@ -103,6 +103,13 @@ isGiven (shares p) = false
 isGiven reserved = false
 isGiven stays = false
 
+abbrev pub isOwned : Kind → Bool
+isOwned owns = true
+isOwned given = false
+isOwned (shares p) = false
+isOwned reserved = false
+isOwned stays = false
+
 -- the slots whose kind passes the test
 unfoldable pub pass : Geometry → Store → Edit → (Kind → Bool) → List ℕ → List ℕ
 pass g st e p ws = eachSlot g e (λ ws k. let c = kindOf g st e k in cond (p c) (become c ws (e .file * g .S + k)) ws) ws
@@ -135,15 +142,13 @@ newByte g st e p = elim (e .act) [
   | deallocate ↦ 0
 ]
 
--- only slots with a block of their own are written; a freed block keeps its bytes
+-- slot k: only one that is to have a block of its own is written; a freed block keeps its bytes
+unfoldable pub fillSlot : Geometry → Store → Edit → List ℕ → ℕ → List ℕ
+fillSlot g st e m k = cond (isOwned (kindOf g st e k))
+    (storeSlot g (within (e .off) (e .end)) (newByte g st e) (wordOf g (st .words) (e .file) k) (wordOf g (plan g st e) (e .file) k) m k) m
+
 unfoldable pub editBytes : Geometry → Store → Edit → List ℕ
-editBytes g st e = eachSlot g e (λ m k. elim (kindOf g st e k) [
-  | owns ↦ storeSlot g (within (e .off) (e .end)) (newByte g st e) (wordOf g (st .words) (e .file) k) (wordOf g (plan g st e) (e .file) k) m k
-  | given ↦ m
-  | shares p ↦ m
-  | reserved ↦ m
-  | stays ↦ m
-]) (st .mem)
+editBytes g st e = eachSlot g e (fillSlot g st e) (st .mem)
 
 -- ---- the store after the edit
 

@@ -17,7 +17,7 @@ use Rattle.store.specs.EditPromises.{EditPromise}
 use Rattle.store.specs.Edits.{Applies, editFrom}
 use Rattle.store.specs.Fill.{Fills}
 use Rattle.store.specs.Planner.{Plannable, EditPlanned}
-use Rattle.store.proofs.WriteEdit.{edit-none, sound-store, plan-refused, plan-done}
+use Rattle.store.proofs.EditEnds.{edit-none, sound-store, plan-refused, plan-done}
 use Rattle.store.proofs.KindLaws.{applies-plannable}
 use Rattle.store.proofs.FillLaws.{fills-known}
 

@@ -10,18 +10,18 @@ use lib.ListN.{length, getD, take, drop, length-drop}
 use lib.Seq.{length-take-le}
 use Rattle.rules.specs.Lists.{each}
 use Rattle.rules.specs.Store.{Geometry, Store, sizeOf, wordOf, slotByte, byteAt}
-use Rattle.rules.specs.Edit.{Edit, Kind, owns, given, shares, reserved, stays, within, firstSlot, slotCount, kindOf, plan, storeSlot, newByte, editBytes}
-use Rattle.rules.proofs.PlanLaws.{each-ext, InPool}
+use Rattle.rules.specs.Edit.{Edit, Kind, owns, given, shares, reserved, stays, within, firstSlot, slotCount, kindOf, plan, storeSlot, newByte, isOwned, fillSlot, editBytes}
+use Rattle.rules.proofs.PlanLaws.{InPool}
 use Rattle.rules.proofs.GeometryLaws.{Good, good, block-pos}
 use Rattle.rules.proofs.SoundStore.{Sound, div-lt, apart, in-file, slots-fit}
 use Rattle.rules.proofs.SoundLaws.{sound-facts}
 use Rattle.store.specs.declared.edit.Act as Code
 use Rattle.store.specs.declared.edit.Source.{Source}
 use Rattle.store.specs.declared.edit.Edit as CodeEdit
-use Rattle.store.specs.Edits.{actFrom, editFrom, isOwned, ActKnown, Applies}
+use Rattle.store.specs.Edits.{actFrom, editFrom, ActKnown, Applies}
 use Rattle.store.specs.Planner.{SlotOf, KindIs}
 use Rattle.store.specs.SlotBytes.{Touched, SlotCopy}
-use Rattle.store.specs.Fill.{fillSlot, PlannedEdit, Fills, Filling, SlotFills, SlotOwns}
+use Rattle.store.specs.Fill.{PlannedEdit, Fills, Filling, SlotFills, SlotOwns}
 use Rattle.store.proofs.StoreLaws.{slot-touched, Storing, storing-start, storing-turn, storing-end, each-from, word-cut}
 use Rattle.store.proofs.CopyBytes.{slot-same, other-block}
 use Rattle.store.proofs.KindLaws.{applies-slots}
@@ -37,15 +37,8 @@ owned-is reserved e = let z : _≡_ {A = ℕ} 0 1 = cc in absurd (omega arith)
 owned-is stays e = let z : _≡_ {A = ℕ} 0 1 = cc in absurd (omega arith)
 
 bytes-are : (g : Geometry) (st : Store) (e : Edit) → editBytes g st e ≡ each (fillSlot g st e) (st .mem) (firstSlot g (e .off)) (slotCount g (e .off) (e .end))
-unfolding editBytes fillSlot
-bytes-are g st e = each-ext _ _ (slotCount g (e .off) (e .end)) (firstSlot g (e .off)) (st .mem) (λ m k l u. go (kindOf g st e k) m _)
-  where
-    go : (c : Kind) (m stored : List ℕ) → elim c [ owns ↦ stored | given ↦ m | shares p ↦ m | reserved ↦ m | stays ↦ m ] ≡ cond (isOwned c) stored m
-    go owns m stored = refl
-    go given m stored = refl
-    go (shares p) m stored = refl
-    go reserved m stored = refl
-    go stays m stored = refl
+unfolding editBytes
+bytes-are g st e = refl
 
 -- ---- what is known of a planned edit
 

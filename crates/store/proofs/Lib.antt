@@ -4,7 +4,7 @@ pub mod OwnLaws
 pub mod StoreLaws
 pub mod PlaceLaws
 pub mod ScanLaws
-pub mod WriteEdit
+pub mod EditEnds
 pub mod SettleLaws
 pub mod SurveyKnown
 pub mod CopyBytes

@@ -1,7 +1,6 @@
 -- The code's edit as a value of the rules, and what is known where it is applied. Contracts cite these.
 use Prim.Native.Nat.{ℕ, _+_, _*_, _%_, _≤_, _<_, _-_}
 use mathlib.Core.Path.{_≡_}
-use mathlib.Core.Bool.{Bool, true, false}
 use mathlib.Core.List.{List}
 use mathlib.Core.Logic.{_≢_}
 use lib.ListN.{length, getD}
@@ -32,14 +31,6 @@ kindFrom CodeKind.Kind.Given = given
 kindFrom (CodeKind.Kind.Shares p) = shares p
 kindFrom CodeKind.Kind.Reserved = reserved
 kindFrom CodeKind.Kind.Stays = stays
-
--- a slot of that kind is to have a block of its own
-abbrev pub isOwned : Kind → Bool
-isOwned owns = true
-isOwned given = false
-isOwned (shares p) = false
-isOwned reserved = false
-isOwned stays = false
 
 -- ---- where an edit is applied
 

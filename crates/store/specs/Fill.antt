@@ -1,25 +1,17 @@
 -- The bytes of an edit, after its plan. Contracts cite these.
 use Prim.Native.Nat.{ℕ, _+_, _*_, _≤_, _<_}
 use mathlib.Core.Path.{_≡_}
-use mathlib.Core.Bool.{true, cond}
+use mathlib.Core.Bool.{true}
 use mathlib.Core.List.{List}
 use mathlib.Core.Logic.{_≢_}
 use lib.ListN.{length, take, drop}
 use Rattle.rules.specs.Store.{Geometry, Store, sizeOf, wordOf, byteAt, sound}
-use Rattle.rules.specs.Edit.{Edit, owns, within, firstSlot, slotCount, kindOf, plan, storeSlot, newByte}
+use Rattle.rules.specs.Edit.{Edit, owns, firstSlot, slotCount, kindOf, plan}
 use Rattle.rules.proofs.PlanLaws.{InPool}
 use Rattle.tables.specs.Tables.{Shaped}
 use Rattle.store.specs.declared.edit.Edit as CodeEdit
-use Rattle.store.specs.Edits.{editFrom, isOwned, ActKnown}
+use Rattle.store.specs.Edits.{editFrom, ActKnown}
 use Rattle.store.specs.Planner.{EditSlots}
-
--- ---- one slot of the region, as `editBytes` has it
-
-unfoldable pub fillSlot : Geometry → Store → Edit → List ℕ → ℕ → List ℕ
-fillSlot g st e m k = cond (isOwned (kindOf g st e k))
-    (storeSlot g (within (e .off) (e .end)) (newByte g st e) (wordOf g (st .words) (e .file) k) (wordOf g (plan g st e) (e .file) k) m k) m
-
--- ---- what is known
 
 -- e with data d was planned for the sound store st, where its file has that size: `words` are the words that it leaves, all in the pool
 pub record PlannedEdit (g : Geometry) (st : Store) (e : CodeEdit.Edit) (d : List ℕ) (size : ℕ) (words : List ℕ) : Type 0 where

@@ -1,4 +1,4 @@
-use Rattle.store.proofs.WriteEdit.{size-kept, size-grown}
+use Rattle.store.proofs.EditEnds.{size-kept, size-grown}
 use borrow.Author.Needs.{needs}
 use Rattle.store.proofs.edits.grow.Statement.{statement}
 use Rattle.store.proofs.edits.grow.Tie as tie

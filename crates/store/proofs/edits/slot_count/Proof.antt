@@ -1,5 +1,5 @@
 use native.Mathlib.Omega.{arith}
-use Rattle.store.proofs.WriteEdit.{slots-room}
+use Rattle.store.proofs.EditEnds.{slots-room}
 use borrow.Author.Needs.{needs}
 use Rattle.store.proofs.edits.slot_count.Statement.{statement}
 use Rattle.store.proofs.edits.slot_count.Tie as tie

@@ -38,7 +38,7 @@ fn put_owned(
     let act = e.act;
     match act {
         Act::Write => write_slot(g, mem, w, new, k, off, d),
-        Act::Copy(s) => copy_slot(g, words, mem, s, w, new, k, off, end, page),
+        Act::Copy(s) => copy_slot(g, words, mem, e, s, w, new, k, page),
         Act::Clone(_) => {}
         Act::Allocate => {}
         Act::Deallocate => zero_slot(g, mem, w, new, k, off, end),

@@ -26,7 +26,7 @@ sub-read-bytes c = search needs
 
 add-read-bytes : tie.Need-add-read-bytes
 add-read-bytes c =
-    let s = c .before .before .before .before .before .before .before .before .before in
+    let s = c .before .before .before .before .before .before .before .before .before .before in
     omega (arith, s .pre .readable .fits, s .pre .touched .ordered, s .pre .touched .before, file-most _ (good _ (s .pre .readable .geometry)))
 
 slice-relend-prefix-read-bytes : tie.Need-slice-relend-prefix-read-bytes
@@ -34,14 +34,14 @@ slice-relend-prefix-read-bytes c = search needs
 
 slice-aggregate-read-bytes : tie.Need-slice-aggregate-read-bytes
 slice-aggregate-read-bytes c =
-    let e = c .before .before .before in
+    let e = c .before .before .before .before in
     let l = e .before .before in
     let s = l .before .before .before .before .before in
     page-lent _ _ _ (s .args .page .now) _ _ _ _ _ _ _ _ _ (s .pre) (l .later .ensures) (e .earlier .ensures)
 
 read-bytes-requires : tie.Need-read-bytes-requires
 read-bytes-requires c κs =
-    let e = c .before .before .before in
+    let e = c .before .before .before .before in
     let l = e .before .before in
     let s = l .before .before .before .before .before in
     share-readable _ _ _ (s .args .page .now) _ _ _ _ _ _ _ _ _ (s .pre) (l .later .ensures) (e .earlier .ensures)
@@ -55,7 +55,7 @@ slice-reshare-prefix-store-part c = search needs
 slice-aggregate-store-part : tie.Need-slice-aggregate-store-part
 slice-aggregate-store-part c =
     let r = c .before .before .before .before in
-    let e = r .before .before .before .before in
+    let e = r .before .before .before .before .before in
     let l = e .before .before in
     let s = l .before .before .before .before .before in
     share-lent _ _ _ (s .args .page .now) _ _ _ _ _ _ _ _ _ (s .pre) (l .later .ensures) (e .earlier .ensures) (r .read-bytes .last .1 .1 .1 .1 .1 .0) (r .read-bytes .kept .1 .1 .1 .1 .1 .0)
@@ -63,7 +63,7 @@ slice-aggregate-store-part c =
 store-part-requires : tie.Need-store-part-requires
 store-part-requires c κs =
     let r = c .before .before .before .before in
-    let e = r .before .before .before .before in
+    let e = r .before .before .before .before .before in
     let l = e .before .before in
     let s = l .before .before .before .before .before in
     share-fits _ _ _ (s .args .page .now) _ _ _ _ _ _ _ _ _ (s .pre) (l .later .ensures) (e .earlier .ensures) (r .read-bytes .last .1 .1 .1 .1 .1 .0) (r .read-bytes .kept .1 .1 .1 .1 .1 .0)
@@ -78,7 +78,7 @@ returns : tie.Need-returns
 returns c =
     let w = c .before .before in
     let r = w .before .before .before .before .before in
-    let e = r .before .before .before .before in
+    let e = r .before .before .before .before .before in
     let l = e .before .before in
     let s = l .before .before .before .before .before in
     λ sizes. w .store-part .ensures

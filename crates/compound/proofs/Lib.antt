@@ -3,7 +3,6 @@ pub mod LeafLaws
 pub mod HandleOps
 pub mod EditOps
 pub mod CloneOps
-pub mod RequestLaws
 pub mod SpliceLaws
 pub mod ReadOps
 pub mod LoopLaws

@@ -14,16 +14,16 @@ ghost use Rattle.rules.specs.Read.{granted};
 ghost use Rattle.rules.specs.Operation.{readReply, readPlusReply, seekReply};
 ghost use Rattle.rules.specs.Run.{State, errors, perform, config};
 ghost use Rattle.store.specs.Plan.{TableTrue};
-ghost use Rattle.compound.specs.Decoded.{meaning};
+ghost use Rattle.wire.specs.Decoded.{meaning};
 ghost use Rattle.compound.specs.Runner.{stateOf, Known, Shows, Answered};
 use crate::answer::Answer;
 use crate::answer::Handle;
-use crate::answer::put_result;
 use crate::answer::without_body;
-use crate::operation::Operation;
-use crate::operation::ReadArgs;
 use crate::stateid::read_stateid;
 use store::Geometry;
+use wire::Operation;
+use wire::ReadArgs;
+use wire::put_result;
 
 // The bytes granted of n asked for.
 fn grant(n: u32) -> u64

@@ -8,19 +8,19 @@ ghost use Rattle.rules.specs.Operation.{bad, items};
 ghost use Rattle.rules.specs.Run.{failed, perform, reached, config};
 ghost use Rattle.rules.specs.Calls.{fresh};
 ghost use Rattle.store.specs.Plan.{TableTrue};
-ghost use Rattle.compound.specs.Decoded.{meaning};
+ghost use Rattle.wire.specs.Decoded.{meaning};
 ghost use Rattle.compound.specs.Runner.{stateOf, Runs, Answered, eventAt, Turned, RunsAll, RanAll};
 use crate::answer::Answer;
 use crate::answer::Handle;
-use crate::answer::put_result;
 use crate::clones;
-use crate::decode::item;
 use crate::edits;
 use crate::handles;
-use crate::operation::Item;
-use crate::operation::Operation;
 use crate::reads;
 use store::Geometry;
+use wire::Item;
+use wire::Operation;
+use wire::item;
+use wire::put_result;
 use xdr::Cursor;
 
 // Where a run stands: the last status, the operations reached, the next byte to read and to write, and the handles.

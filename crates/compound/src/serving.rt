@@ -16,11 +16,11 @@ ghost use Rattle.store.specs.Tables.{Shaped};
 ghost use Rattle.store.specs.Survey.{TableFits, TableReady};
 ghost use Rattle.compound.specs.Runner.{Serves, headerOf, call, outcome};
 use crate::answer::Answer;
-use crate::decode::HeaderRead;
-use crate::decode::header;
-use crate::operation::Operation;
 use crate::run::run;
 use store::Geometry;
+use wire::HeaderRead;
+use wire::Operation;
+use wire::header;
 use xdr::Cursor;
 use xdr::Span;
 

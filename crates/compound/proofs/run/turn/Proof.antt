@@ -1,5 +1,5 @@
 use mathlib.Core.Path.{sym, ap, _∙_}
-use Rattle.compound.specs.Decoded.{itemOf}
+use Rattle.wire.specs.Decoded.{itemOf}
 use Rattle.compound.proofs.HandleOps.{turned}
 use borrow.Author.Needs.{needs}
 use Rattle.compound.proofs.run.turn.Statement.{statement}

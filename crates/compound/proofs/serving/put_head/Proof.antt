@@ -1,7 +1,7 @@
 use native.Mathlib.Omega.{arith}
 use borrow.Author.Needs.{needs}
 use Rattle.xdr.proofs.BytesLaws.{written-then}
-use Rattle.compound.proofs.LeafLaws.{written-sized}
+use Rattle.wire.proofs.FieldLaws.{written-sized}
 use Rattle.compound.proofs.serving.put_head.Statement.{statement}
 use Rattle.compound.proofs.serving.put_head.Tie as tie
 

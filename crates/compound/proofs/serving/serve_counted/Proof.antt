@@ -1,6 +1,6 @@
 use mathlib.Core.Path.{sym, ap, _∙_}
 use borrow.Author.Needs.{needs}
-use Rattle.compound.specs.Decoded.{ofHeader}
+use Rattle.wire.specs.Decoded.{ofHeader}
 use Rattle.compound.proofs.ServeLaws.{refused-3, refused-4, refused-5, refused-6, serves, survey-unsound, survey-sound, table-long, serves-known, tag-short}
 use Rattle.compound.proofs.serving.serve_counted.Statement.{statement}
 use Rattle.compound.proofs.serving.serve_counted.Tie as tie

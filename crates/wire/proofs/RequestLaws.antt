@@ -2,19 +2,25 @@
 use Prim.Native.Nat.{ℕ, _≤_, _<_}
 use mathlib.Core.Path.{_≡_, refl, sym, ap, _∙_}
 use mathlib.Core.Bool.{Bool}
+use mathlib.Core.Logic.{inl, inr}
 use mathlib.Core.Option.{Option, none, some}
 use mathlib.Core.List.{List, [], _∷_}
 use lib.Dec.{eqb}
 use borrow.Author.Tests.{eq-eqb, ne-eqb, le-leb, lt-leb}
 use Rattle.xdr.specs.declared.bytes.Span.{Span}
+use Rattle.xdr.specs.declared.read.Cursor.{Cursor}
+use Rattle.xdr.specs.declared.read.Word.{Word}
+use Rattle.xdr.specs.declared.read.Long.{Long}
 use Rattle.xdr.specs.declared.read.Bytes.{Bytes}
 use Rattle.xdr.specs.Bytes.{partOf}
-use Rattle.xdr.specs.Decode.{Parsed, got, fault, stop, Reader, number, upTo, fixedAt, fixed, opaqueAt, opaqueUpTo}
-use Rattle.xdr.specs.Answers.{ofBytes}
+use Rattle.xdr.specs.Decode.{Parsed, got, fault, stop, andThen, Reader, number, upTo, fixedAt, fixed, opaqueAt, opaqueUpTo}
+use Rattle.xdr.specs.Answers.{ofWord, ofLong, ofBytes}
 use Rattle.xdr.specs.Layout.{Layout, boolean, _then_}
+use Rattle.wire.specs.declared.operation.CloneArgs.{CloneArgs}
+use Rattle.wire.specs.declared.decode.StartAnswer.{StartAnswer}
 use Rattle.wire.specs.declared.decode.CloneAnswer.{CloneAnswer}
-use Rattle.rules.specs.Operation.{NOTSUPP, BADXDR, OP-ILLEGAL, SEQUENCE-POS, Op, COPY, op, bad, argsItem, reading, copyOf, copyArgs, numberItem, unserved, itemAt, header, headerLayout, readers, find}
-use Rattle.wire.specs.Decoded.{ofHandle, ofCloneArgs, cloneStop}
+use Rattle.rules.specs.Operation.{NOTSUPP, BADXDR, OP-ILLEGAL, SEQUENCE-POS, Op, READ, READ-PLUS, SEEK, ALLOCATE, DEALLOCATE, COPY, op, bad, three, argsItem, reading, readArgs, regionArgs, copyOf, copyArgs, numberItem, unserved, itemAt, header, headerLayout, readers, find}
+use Rattle.wire.specs.Decoded.{startStop, ofHandle, ofStartArgs, ofReadArgs, ofRegionArgs, cloneParts, ofCloneArgs, cloneStop, ReadLike, RegionLike}
 
 -- ---- one field
 
@@ -22,36 +28,73 @@ use Rattle.wire.specs.Decoded.{ofHandle, ofCloneArgs, cloneStop}
 pub at-fault : {A : Type 0} {t u : Parsed A} {p q : ℕ} → p ≡ stop t → t ≡ u → t ≡ fault q → u ≡ fault p
 at-fault h e f = sym e ∙ f ∙ ap fault (sym (h ∙ ap stop f))
 
-pub fixed-got : (n : ℕ) (s : List ℕ) (at : ℕ) {d : Span} {m : ℕ} → fixedAt n s at ≡ got d m → fixed n s at ≡ got (partOf s d) m
+-- a number, found or missed by the code's reader
+pub word-found : {r : Word} {u : Parsed ℕ} {n : ℕ} {c : Cursor} → ofWord r ≡ u → r ≡ Word.Value n c → u ≡ got n (c .at)
+word-found e g = sym e ∙ ap ofWord g
+
+pub word-missed : {r : Word} {u : Parsed ℕ} {p q : ℕ} → p ≡ stop (ofWord r) → ofWord r ≡ u → r ≡ Word.Fault q → u ≡ fault p
+word-missed h e g = at-fault h e (ap ofWord g)
+
+pub long-found : {r : Long} {u : Parsed ℕ} {n : ℕ} {c : Cursor} → ofLong r ≡ u → r ≡ Long.Value n c → u ≡ got n (c .at)
+long-found e g = sym e ∙ ap ofLong g
+
+pub long-missed : {r : Long} {u : Parsed ℕ} {p q : ℕ} → p ≡ stop (ofLong r) → ofLong r ≡ u → r ≡ Long.Fault q → u ≡ fault p
+long-missed h e g = at-fault h e (ap ofLong g)
+
+-- a boolean is a number, and bytes are a span of the request
+pub boolean-found : (s : List ℕ) (at : ℕ) {r : Word} {n : ℕ} {c : Cursor} → ofWord r ≡ upTo 1 s at → r ≡ Word.Value n c → boolean .read s at ≡ got (eqb n 1) (c .at)
+boolean-found s at e g = rw (word-found e g)
+
+pub boolean-missed : (s : List ℕ) (at : ℕ) {r : Word} {p q : ℕ} → p ≡ stop (ofWord r) → ofWord r ≡ upTo 1 s at → r ≡ Word.Fault q → boolean .read s at ≡ fault p
+boolean-missed s at h e g = rw (word-missed h e g)
+
+pub fixed-found : (n : ℕ) (s : List ℕ) (at : ℕ) {r : Bytes} {d : Span} {c : Cursor} → ofBytes r ≡ fixedAt n s at → r ≡ Bytes.Found d c → fixed n s at ≡ got (partOf s d) (c .at)
 unfolding fixed
-fixed-got n s at e = rw e
+fixed-found n s at e g = rw (sym e ∙ ap ofBytes g)
 
-pub fixed-fault : (n : ℕ) (s : List ℕ) (at : ℕ) {p : ℕ} → fixedAt n s at ≡ fault p → fixed n s at ≡ fault p
+pub fixed-missed : (n : ℕ) (s : List ℕ) (at : ℕ) {r : Bytes} {p q : ℕ} → p ≡ stop (ofBytes r) → ofBytes r ≡ fixedAt n s at → r ≡ Bytes.Fault q → fixed n s at ≡ fault p
 unfolding fixed
-fixed-fault n s at e = rw e
+fixed-missed n s at h e g = rw (at-fault h e (ap ofBytes g))
 
-pub opaque-got : (limit : ℕ) (s : List ℕ) (at : ℕ) {d : Span} {m : ℕ} → opaqueAt limit s at ≡ got d m → opaqueUpTo limit s at ≡ got (partOf s d) m
+pub opaque-found : (limit : ℕ) (s : List ℕ) (at : ℕ) {r : Bytes} {d : Span} {c : Cursor} → ofBytes r ≡ opaqueAt limit s at → r ≡ Bytes.Found d c
+    → opaqueUpTo limit s at ≡ got (partOf s d) (c .at)
 unfolding opaqueUpTo
-opaque-got limit s at e = rw e
+opaque-found limit s at e g = rw (sym e ∙ ap ofBytes g)
 
-pub opaque-fault : (limit : ℕ) (s : List ℕ) (at : ℕ) {p : ℕ} → opaqueAt limit s at ≡ fault p → opaqueUpTo limit s at ≡ fault p
+pub opaque-missed : (limit : ℕ) (s : List ℕ) (at : ℕ) {r : Bytes} {p q : ℕ} → p ≡ stop (ofBytes r) → ofBytes r ≡ opaqueAt limit s at → r ≡ Bytes.Fault q
+    → opaqueUpTo limit s at ≡ fault p
 unfolding opaqueUpTo
-opaque-fault limit s at e = rw e
+opaque-missed limit s at h e g = rw (at-fault h e (ap ofBytes g))
 
 -- a handle is opaque data
 pub handle-read : (s : List ℕ) (at : ℕ) (r : Bytes) → ofBytes r ≡ opaqueAt 128 s at → ofHandle s r ≡ opaqueUpTo 128 s at
-handle-read s at (Bytes.Found d c) e = sym (opaque-got 128 s at (sym e))
-handle-read s at (Bytes.Fault p) e = sym (opaque-fault 128 s at (sym e))
+handle-read s at (Bytes.Found d c) e = sym (opaque-found 128 s at e refl)
+handle-read s at (Bytes.Fault p) e = sym (opaque-missed 128 s at refl e refl)
 
-pub boolean-got : (s : List ℕ) (at : ℕ) {n m : ℕ} → upTo 1 s at ≡ got n m → boolean .read s at ≡ got (eqb n 1) m
-boolean-got s at e = rw e
+-- ---- arguments that are the first of others
 
-pub boolean-fault : (s : List ℕ) (at : ℕ) {p : ℕ} → upTo 1 s at ≡ fault p → boolean .read s at ≡ fault p
-boolean-fault s at e = rw e
+start-stop : (s : List ℕ) (r : StartAnswer) → startStop r ≡ stop (ofStartArgs s r)
+start-stop s (StartAnswer.Found d o c) = refl
+start-stop s (StartAnswer.Fault p) = refl
 
-pub clone-stop : (s : List ℕ) (r : CloneAnswer) → cloneStop r ≡ stop (ofCloneArgs s r)
+pub start-found : (s : List ℕ) {u : Parsed (List ℕ × ℕ)} {r : StartAnswer} {d : Span} {o : ℕ} {c : Cursor} → ofStartArgs s r ≡ u → r ≡ StartAnswer.Found d o c
+    → u ≡ got (partOf s d, o) (c .at)
+start-found s e g = sym e ∙ ap (ofStartArgs s) g
+
+pub start-missed : (s : List ℕ) {u : Parsed (List ℕ × ℕ)} {r : StartAnswer} {p q : ℕ} → p ≡ startStop r → ofStartArgs s r ≡ u → r ≡ StartAnswer.Fault q → u ≡ fault p
+start-missed s {r = r} h e g = at-fault (h ∙ start-stop s r) e (ap (ofStartArgs s) g)
+
+clone-stop : (s : List ℕ) (r : CloneAnswer) → cloneStop r ≡ stop (ofCloneArgs s r)
 clone-stop s (CloneAnswer.Found a c) = refl
 clone-stop s (CloneAnswer.Fault p) = refl
+
+pub clone-found : (s : List ℕ) {u : Parsed (List ℕ × (List ℕ × (ℕ × (ℕ × ℕ))))} {r : CloneAnswer} {a : CloneArgs} {c : Cursor} → ofCloneArgs s r ≡ u
+    → r ≡ CloneAnswer.Found a c → u ≡ got (cloneParts s a) (c .at)
+clone-found s e g = sym e ∙ ap (ofCloneArgs s) g
+
+pub clone-missed : (s : List ℕ) {u : Parsed (List ℕ × (List ℕ × (ℕ × (ℕ × ℕ))))} {r : CloneAnswer} {p q : ℕ} → p ≡ cloneStop r → ofCloneArgs s r ≡ u
+    → r ≡ CloneAnswer.Fault q → u ≡ fault p
+clone-missed s {r = r} h e g = at-fault (h ∙ clone-stop s r) e (ap (ofCloneArgs s) g)
 
 -- ---- one field after another
 
@@ -66,6 +109,42 @@ pub both-got : {A B : Type 0} (a : Layout A) (b : Layout B) {s : List ℕ} {at :
     → (a then b) .read s at ≡ got (x, y) n
 both-got a b e f = rw (e, f)
 
+-- a fault in the rest of a layout, from m on, is one of the whole, from `at` on
+abbrev pub Fails : {A B : Type 0} → Layout A → List ℕ → ℕ → Layout B → ℕ → Type 0
+Fails whole s at rest m = (p : ℕ) → rest .read s m ≡ fault p → whole .read s at ≡ fault p
+
+-- a value in front of one that is read
+abbrev pair : {A B : Type 0} → A → Parsed B → Parsed (A × B)
+pair {A} {B} x t = andThen {A = B} {B = A × B} t (λ y n. got (x, y) n)
+
+-- two fields that are read together, and the rest
+module _ {A B C : Type 0} (a : Layout A) (b : Layout B) (c : Layout C) (s : List ℕ) (at : ℕ) where
+  joined : A × B → ℕ → Parsed (A × (B × C))
+  joined x m = pair (x .0) (pair (x .1) (c .read s m))
+
+  together : (a then b then c) .read s at ≡ andThen ((a then b) .read s at) joined
+  unfolding joined
+  together = first (a .read s at)
+    where
+      second : (x : A) (t : Parsed B) → pair x (andThen t (λ y m. pair y (c .read s m))) ≡ andThen (pair x t) joined
+      second x (got y m) = refl
+      second x (fault p) = refl
+
+      first : (t : Parsed A) → andThen t (λ x m. pair x ((b then c) .read s m)) ≡ andThen (andThen t (λ x m. pair x (b .read s m))) joined
+      first (got x m) = second x (b .read s m)
+      first (fault p) = refl
+
+  pub start-fault : {p : ℕ} → (a then b) .read s at ≡ fault p → (a then b then c) .read s at ≡ fault p
+  start-fault e = rw (together, e)
+
+  pub rest-fault : {x : A} {y : B} {m p : ℕ} → (a then b) .read s at ≡ got (x, y) m → c .read s m ≡ fault p → (a then b then c) .read s at ≡ fault p
+  unfolding joined
+  rest-fault e f = rw (together, e, f)
+
+  pub all-got : {x : A} {y : B} {m : ℕ} {z : C} {n : ℕ} → (a then b) .read s at ≡ got (x, y) m → c .read s m ≡ got z n → (a then b then c) .read s at ≡ got (x, (y, z)) n
+  unfolding joined
+  all-got e f = rw (together, e, f)
+
 -- ---- an operation
 
 pub item-fault : {A : Type 0} (l : Layout A) (f : A → Op) (k : ℕ) {s : List ℕ} {at p : ℕ} → l .read s at ≡ fault p → argsItem k (reading l (λ a. some (f a)) s at) ≡ bad k BADXDR
@@ -74,6 +153,25 @@ item-fault l f k e = rw e
 pub item-got : {A : Type 0} (l : Layout A) (f : A → Op) (k : ℕ) {s : List ℕ} {at : ℕ} {a : A} {m : ℕ} → l .read s at ≡ got a m
     → argsItem k (reading l (λ a. some (f a)) s at) ≡ op (f a) m
 item-got l f k e = rw e
+
+-- the operations that have the same arguments, a row each
+pub read-bad : (s : List ℕ) (at : ℕ) {n p : ℕ} → ReadLike n → readArgs .read s at ≡ fault p → bad n BADXDR ≡ numberItem s (got n at)
+read-bad s at (inl e) f = rw e (sym (item-fault readArgs (three READ) 25 f))
+read-bad s at (inr (inl e)) f = rw e (sym (item-fault readArgs (three READ-PLUS) 68 f))
+read-bad s at (inr (inr e)) f = rw e (sym (item-fault readArgs (three SEEK) 69 f))
+
+pub seek-left : {n : ℕ} → ReadLike n → (n ≡ 25 → ⊥) → (n ≡ 68 → ⊥) → n ≡ 69
+seek-left (inl e) h k = absurd (h e)
+seek-left (inr (inl e)) h k = absurd (k e)
+seek-left (inr (inr e)) h k = e
+
+pub region-bad : (s : List ℕ) (at : ℕ) {n p : ℕ} → RegionLike n → regionArgs .read s at ≡ fault p → bad n BADXDR ≡ numberItem s (got n at)
+region-bad s at (inl e) f = rw e (sym (item-fault regionArgs (three ALLOCATE) 59 f))
+region-bad s at (inr e) f = rw e (sym (item-fault regionArgs (three DEALLOCATE) 62 f))
+
+pub deallocate-left : {n : ℕ} → RegionLike n → (n ≡ 59 → ⊥) → n ≡ 62
+deallocate-left (inl e) h = absurd (h e)
+deallocate-left (inr e) h = e
 
 -- the answer to a COPY: arguments x, consecutive, synchronous, and n source servers
 module _ (s : List ℕ) (at : ℕ) (x : List ℕ × (List ℕ × (ℕ × (ℕ × ℕ)))) (c y : Bool) (n m : ℕ) (e : copyArgs .read s at ≡ got (x, (c, (y, n))) m) where

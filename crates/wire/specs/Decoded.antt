@@ -2,27 +2,44 @@
 use Prim.Native.Nat.{ℕ}
 use mathlib.Core.Path.{_≡_}
 use mathlib.Core.Bool.{Bool}
+use mathlib.Core.Logic.{_⊎_}
 use mathlib.Core.List.{List}
 use lib.Dec.{eqb}
 use Rattle.xdr.specs.declared.read.Bytes.{Bytes}
 use Rattle.xdr.specs.Bytes.{partOf}
 use Rattle.xdr.specs.Decode.{Parsed, got, fault}
+use Rattle.xdr.specs.Layout.{Layout, hyper, _then_}
 use Rattle.wire.specs.declared.operation.CloneArgs.{CloneArgs}
 use Rattle.wire.specs.declared.operation.Operation.{Operation}
 use Rattle.wire.specs.declared.operation.Item as declared
+use Rattle.wire.specs.declared.decode.StartAnswer.{StartAnswer}
 use Rattle.wire.specs.declared.decode.ReadAnswer.{ReadAnswer}
 use Rattle.wire.specs.declared.decode.WriteAnswer.{WriteAnswer}
 use Rattle.wire.specs.declared.decode.RegionAnswer.{RegionAnswer}
 use Rattle.wire.specs.declared.decode.CloneAnswer.{CloneAnswer}
 use Rattle.wire.specs.declared.decode.CopyAnswer.{CopyAnswer}
+use Rattle.wire.specs.declared.operation.Header as read
 use Rattle.wire.specs.declared.decode.HeaderRead.{HeaderRead}
-use Rattle.rules.specs.Operation.{Op, GETFH, RESTOREFH, SAVEFH, PUTFH, READ, READ-PLUS, WRITE, ALLOCATE, DEALLOCATE, SEEK, COPY, CLONE, Item, op, bad, Header}
+use Rattle.rules.specs.Operation.{Op, GETFH, RESTOREFH, SAVEFH, PUTFH, READ, READ-PLUS, WRITE, ALLOCATE, DEALLOCATE, SEEK, COPY, CLONE, Item, op, bad, Header, stateid}
 
 -- ---- arguments, in the order of their layouts
 
 abbrev pub ofHandle : List ℕ → Bytes → Parsed (List ℕ)
 ofHandle s (Bytes.Found d c) = got (partOf s d) (c .at)
 ofHandle s (Bytes.Fault p) = fault p
+
+-- the first arguments of READ, WRITE and ALLOCATE
+abbrev pub startArgs : Layout (List ℕ × ℕ)
+startArgs = stateid then hyper
+
+abbrev pub ofStartArgs : List ℕ → StartAnswer → Parsed (List ℕ × ℕ)
+ofStartArgs s (StartAnswer.Found d o c) = got (partOf s d, o) (c .at)
+ofStartArgs s (StartAnswer.Fault p) = fault p
+
+-- where the reading stopped
+abbrev pub startStop : StartAnswer → ℕ
+startStop (StartAnswer.Found d o c) = c .at
+startStop (StartAnswer.Fault p) = p
 
 abbrev pub ofReadArgs : List ℕ → ReadAnswer → Parsed (List ℕ × (ℕ × ℕ))
 ofReadArgs s (ReadAnswer.Found a c) = got (partOf s (a .stateid), (a .offset, a .count)) (c .at)
@@ -43,7 +60,6 @@ abbrev pub ofCloneArgs : List ℕ → CloneAnswer → Parsed (List ℕ × (List 
 ofCloneArgs s (CloneAnswer.Found a c) = got (cloneParts s a) (c .at)
 ofCloneArgs s (CloneAnswer.Fault p) = fault p
 
--- where the reading stopped
 abbrev pub cloneStop : CloneAnswer → ℕ
 cloneStop (CloneAnswer.Found a c) = c .at
 cloneStop (CloneAnswer.Fault p) = p
@@ -78,8 +94,18 @@ itemOf s (declared.Item.Bad k e) = bad k e
 abbrev pub Always : declared.Item → Item → Type 0
 Always r i = (s : List ℕ) → itemOf s r ≡ i
 
+-- the numbers of the operations that have these arguments
+abbrev pub ReadLike : ℕ → Type 0
+ReadLike n = (n ≡ 25) ⊎ ((n ≡ 68) ⊎ (n ≡ 69))
+
+abbrev pub RegionLike : ℕ → Type 0
+RegionLike n = (n ≡ 59) ⊎ (n ≡ 62)
+
 -- ---- the header
 
+abbrev pub headerOf : List ℕ → read.Header → Header
+headerOf s h = record { tag = partOf s (h .tag); minor = h .minor; ops = h .ops }
+
 abbrev pub ofHeader : List ℕ → HeaderRead → Parsed Header
-ofHeader s (HeaderRead.Found d m n c) = got (record { tag = partOf s d; minor = m; ops = n }) (c .at)
+ofHeader s (HeaderRead.Found h) = got (headerOf s h) (h .next .at)
 ofHeader s (HeaderRead.Fault p) = fault p

@@ -2,9 +2,10 @@
 ghost use mathlib.Core.Path.{_≡_};
 ghost use Rattle.xdr.specs.Decode.{got};
 ghost use Rattle.rules.specs.Operation.{handleArgs, readArgs, writeArgs, regionArgs, cloneArgs, copyArgs, unserved, numberItem, itemAt, header};
-ghost use Rattle.wire.specs.Decoded.{ofHandle, ofReadArgs, ofWriteArgs, ofRegionArgs, ofCloneArgs, cloneStop, ofCopyArgs, ofHeader, itemOf, Always};
+ghost use Rattle.wire.specs.Decoded.{startArgs, startStop, ofHandle, ofStartArgs, ofReadArgs, ofWriteArgs, ofRegionArgs, ofCloneArgs, cloneStop, ofCopyArgs, ofHeader, itemOf, ReadLike, RegionLike, Always};
 use crate::operation::CloneArgs;
 use crate::operation::CopyArgs;
+use crate::operation::Header;
 use crate::operation::Item;
 use crate::operation::Operation;
 use crate::operation::ReadArgs;
@@ -16,7 +17,13 @@ use xdr::Long;
 use xdr::Span;
 use xdr::Word;
 
-// What a reader of arguments finds: the arguments and the place after them, or the place of the fault.
+// What a reader of arguments finds: the arguments and the place after them, or the place of the fault. Stateid and offset are
+// the first of READ's, WRITE's and ALLOCATE's.
+pub enum StartAnswer {
+    Found(Span, u64, Cursor),
+    Fault(usize),
+}
+
 pub enum ReadAnswer {
     Found(ReadArgs, Cursor),
     Fault(usize),
@@ -43,14 +50,24 @@ pub enum CopyAnswer {
     Fault(usize),
 }
 
-// Tag, minor version, number of operations and the place of the first, or the place of the fault.
 pub enum HeaderRead {
-    Found(Span, u32, u32, Cursor),
+    Found(Header),
     Fault(usize),
 }
 
-impl CloneAnswer {
+impl StartAnswer {
     // Where the reading stopped.
+    pub fn place(self) -> usize
+        ensures { λ r. ⌜ r ≡ startStop self ⌝ }
+    {
+        match self {
+            StartAnswer::Found(_, _, c) => c.at,
+            StartAnswer::Fault(p) => p,
+        }
+    }
+}
+
+impl CloneAnswer {
     pub fn place(self) -> usize
         ensures { λ r. ⌜ r ≡ cloneStop self ⌝ }
     {
@@ -67,18 +84,28 @@ pub fn handle_args(s: &[u8], c: Cursor) -> Bytes
     c.opaque(s, Operation::MAX_HANDLE)
 }
 
-pub fn read_args(s: &[u8], c: Cursor) -> ReadAnswer
-    ensures { λ r. ⌜ ofReadArgs (now (s .entry)) r ≡ readArgs .read (now (s .entry)) (c .at) ⌝ }
+fn start_args(s: &[u8], c: Cursor) -> StartAnswer
+    ensures { λ r. ⌜ ofStartArgs (now (s .entry)) r ≡ startArgs .read (now (s .entry)) (c .at) ⌝ }
 {
     let i = c.fixed(s, Operation::STATEID);
     let Bytes::Found(stateid, c2) = i else {
-        return ReadAnswer::Fault(i.place());
+        return StartAnswer::Fault(i.place());
     };
     let o = c2.long(s);
-    let Long::Value(offset, c3) = o else {
-        return ReadAnswer::Fault(o.place());
+    let Long::Value(offset, next) = o else {
+        return StartAnswer::Fault(o.place());
     };
-    let n = c3.word(s);
+    StartAnswer::Found(stateid, offset, next)
+}
+
+pub fn read_args(s: &[u8], c: Cursor) -> ReadAnswer
+    ensures { λ r. ⌜ ofReadArgs (now (s .entry)) r ≡ readArgs .read (now (s .entry)) (c .at) ⌝ }
+{
+    let i = start_args(s, c);
+    let StartAnswer::Found(stateid, offset, c2) = i else {
+        return ReadAnswer::Fault(i.place());
+    };
+    let n = c2.word(s);
     let Word::Value(count, next) = n else {
         return ReadAnswer::Fault(n.place());
     };
@@ -95,19 +122,15 @@ pub fn read_args(s: &[u8], c: Cursor) -> ReadAnswer
 pub fn write_args(s: &[u8], c: Cursor) -> WriteAnswer
     ensures { λ r. ⌜ ofWriteArgs (now (s .entry)) r ≡ writeArgs .read (now (s .entry)) (c .at) ⌝ }
 {
-    let i = c.fixed(s, Operation::STATEID);
-    let Bytes::Found(stateid, c2) = i else {
+    let i = start_args(s, c);
+    let StartAnswer::Found(stateid, offset, c2) = i else {
         return WriteAnswer::Fault(i.place());
     };
-    let o = c2.long(s);
-    let Long::Value(offset, c3) = o else {
-        return WriteAnswer::Fault(o.place());
-    };
-    let h = c3.up_to(s, Operation::MAX_STABLE);
-    let Word::Value(stable, c4) = h else {
+    let h = c2.up_to(s, Operation::MAX_STABLE);
+    let Word::Value(stable, c3) = h else {
         return WriteAnswer::Fault(h.place());
     };
-    let d = c4.opaque(s, Cursor::MAX_LENGTH);
+    let d = c3.opaque(s, Cursor::MAX_LENGTH);
     let Bytes::Found(data, next) = d else {
         return WriteAnswer::Fault(d.place());
     };
@@ -125,15 +148,11 @@ pub fn write_args(s: &[u8], c: Cursor) -> WriteAnswer
 pub fn region_args(s: &[u8], c: Cursor) -> RegionAnswer
     ensures { λ r. ⌜ ofRegionArgs (now (s .entry)) r ≡ regionArgs .read (now (s .entry)) (c .at) ⌝ }
 {
-    let i = c.fixed(s, Operation::STATEID);
-    let Bytes::Found(stateid, c2) = i else {
+    let i = start_args(s, c);
+    let StartAnswer::Found(stateid, offset, c2) = i else {
         return RegionAnswer::Fault(i.place());
     };
-    let o = c2.long(s);
-    let Long::Value(offset, c3) = o else {
-        return RegionAnswer::Fault(o.place());
-    };
-    let n = c3.long(s);
+    let n = c2.long(s);
     let Long::Value(length, next) = n else {
         return RegionAnswer::Fault(n.place());
     };
@@ -212,7 +231,7 @@ pub fn copy_args(s: &[u8], c: Cursor) -> CopyAnswer
     )
 }
 
-// Each operation with arguments: the operation that stands at `c`, behind its number.
+// The operations with arguments, by their layouts: what stands at `c`, behind the number.
 fn put_fh_item(s: &[u8], c: Cursor) -> Item
     ensures { λ r. ⌜ itemOf (now (s .entry)) r ≡ numberItem (now (s .entry)) (got 22 (c .at)) ⌝ }
 {
@@ -222,13 +241,33 @@ fn put_fh_item(s: &[u8], c: Cursor) -> Item
     Item::Op(Operation::PutFh(h), next)
 }
 
-fn read_item(s: &[u8], c: Cursor) -> Item
-    ensures { λ r. ⌜ itemOf (now (s .entry)) r ≡ numberItem (now (s .entry)) (got 25 (c .at)) ⌝ }
+// READ, READ_PLUS and SEEK.
+fn read_item(s: &[u8], n: u32, c: Cursor) -> Item
+    requires { ⌜ ReadLike n ⌝ }
+    ensures { λ r. ⌜ itemOf (now (s .entry)) r ≡ numberItem (now (s .entry)) (got n (c .at)) ⌝ }
 {
     let ReadAnswer::Found(a, next) = read_args(s, c) else {
-        return Item::Bad(Operation::READ, Operation::BADXDR);
+        return Item::Bad(n, Operation::BADXDR);
     };
-    Item::Op(Operation::Read(a), next)
+    match n {
+        Operation::READ => Item::Op(Operation::Read(a), next),
+        Operation::READ_PLUS => Item::Op(Operation::ReadPlus(a), next),
+        _ => Item::Op(Operation::Seek(a), next),
+    }
+}
+
+// ALLOCATE and DEALLOCATE.
+fn region_item(s: &[u8], n: u32, c: Cursor) -> Item
+    requires { ⌜ RegionLike n ⌝ }
+    ensures { λ r. ⌜ itemOf (now (s .entry)) r ≡ numberItem (now (s .entry)) (got n (c .at)) ⌝ }
+{
+    let RegionAnswer::Found(a, next) = region_args(s, c) else {
+        return Item::Bad(n, Operation::BADXDR);
+    };
+    match n {
+        Operation::ALLOCATE => Item::Op(Operation::Allocate(a), next),
+        _ => Item::Op(Operation::Deallocate(a), next),
+    }
 }
 
 fn write_item(s: &[u8], c: Cursor) -> Item
@@ -238,15 +277,6 @@ fn write_item(s: &[u8], c: Cursor) -> Item
         return Item::Bad(Operation::WRITE, Operation::BADXDR);
     };
     Item::Op(Operation::Write(a), next)
-}
-
-fn allocate_item(s: &[u8], c: Cursor) -> Item
-    ensures { λ r. ⌜ itemOf (now (s .entry)) r ≡ numberItem (now (s .entry)) (got 59 (c .at)) ⌝ }
-{
-    let RegionAnswer::Found(a, next) = region_args(s, c) else {
-        return Item::Bad(Operation::ALLOCATE, Operation::BADXDR);
-    };
-    Item::Op(Operation::Allocate(a), next)
 }
 
 // A COPY with source servers is not supported.
@@ -260,33 +290,6 @@ fn copy_item(s: &[u8], c: Cursor) -> Item
         return Item::Bad(Operation::COPY, Operation::NOTSUPP);
     }
     Item::Op(Operation::Copy(a), next)
-}
-
-fn deallocate_item(s: &[u8], c: Cursor) -> Item
-    ensures { λ r. ⌜ itemOf (now (s .entry)) r ≡ numberItem (now (s .entry)) (got 62 (c .at)) ⌝ }
-{
-    let RegionAnswer::Found(a, next) = region_args(s, c) else {
-        return Item::Bad(Operation::DEALLOCATE, Operation::BADXDR);
-    };
-    Item::Op(Operation::Deallocate(a), next)
-}
-
-fn read_plus_item(s: &[u8], c: Cursor) -> Item
-    ensures { λ r. ⌜ itemOf (now (s .entry)) r ≡ numberItem (now (s .entry)) (got 68 (c .at)) ⌝ }
-{
-    let ReadAnswer::Found(a, next) = read_args(s, c) else {
-        return Item::Bad(Operation::READ_PLUS, Operation::BADXDR);
-    };
-    Item::Op(Operation::ReadPlus(a), next)
-}
-
-fn seek_item(s: &[u8], c: Cursor) -> Item
-    ensures { λ r. ⌜ itemOf (now (s .entry)) r ≡ numberItem (now (s .entry)) (got 69 (c .at)) ⌝ }
-{
-    let ReadAnswer::Found(a, next) = read_args(s, c) else {
-        return Item::Bad(Operation::SEEK, Operation::BADXDR);
-    };
-    Item::Op(Operation::Seek(a), next)
 }
 
 fn clone_item(s: &[u8], c: Cursor) -> Item
@@ -321,15 +324,15 @@ fn numbered_item(s: &[u8], n: u32, c: Cursor) -> Item
     match n {
         Operation::GETFH => Item::Op(Operation::GetFh, c),
         Operation::PUTFH => put_fh_item(s, c),
-        Operation::READ => read_item(s, c),
+        Operation::READ => read_item(s, n, c),
         Operation::RESTOREFH => Item::Op(Operation::RestoreFh, c),
         Operation::SAVEFH => Item::Op(Operation::SaveFh, c),
         Operation::WRITE => write_item(s, c),
-        Operation::ALLOCATE => allocate_item(s, c),
+        Operation::ALLOCATE => region_item(s, n, c),
         Operation::COPY => copy_item(s, c),
-        Operation::DEALLOCATE => deallocate_item(s, c),
-        Operation::READ_PLUS => read_plus_item(s, c),
-        Operation::SEEK => seek_item(s, c),
+        Operation::DEALLOCATE => region_item(s, n, c),
+        Operation::READ_PLUS => read_item(s, n, c),
+        Operation::SEEK => read_item(s, n, c),
         Operation::CLONE => clone_item(s, c),
         _ => unserved_item(n),
     }
@@ -361,5 +364,10 @@ pub fn header(s: &[u8]) -> HeaderRead
     let Word::Value(ops, next) = n else {
         return HeaderRead::Fault(n.place());
     };
-    HeaderRead::Found(tag, minor, ops, next)
+    HeaderRead::Found(Header {
+        tag,
+        minor,
+        ops,
+        next,
+    })
 }

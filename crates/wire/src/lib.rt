@@ -8,6 +8,7 @@ pub use decode::header;
 pub use decode::item;
 pub use operation::CloneArgs;
 pub use operation::CopyArgs;
+pub use operation::Header;
 pub use operation::Item;
 pub use operation::Operation;
 pub use operation::ReadArgs;

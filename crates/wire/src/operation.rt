@@ -1,6 +1,14 @@
-// A decoded operation. Stateids, handles and data stay where they are in the request, as spans.
+// A decoded request: its header, and an operation. The tag, stateids, handles and data stay where they are, as spans.
 use xdr::Cursor;
 use xdr::Span;
+
+// The header as read. The first operation stands at `next`.
+pub struct Header {
+    pub tag: Span,
+    pub minor: u32,
+    pub ops: u32,
+    pub next: Cursor,
+}
 
 // Of READ and READ_PLUS; of SEEK too, where `count` is the kind that is asked for.
 pub struct ReadArgs {

@@ -79,8 +79,8 @@ returns-3 c =
 header-requires : tie.Need-header-requires
 header-requires c κs = search needs
 
-enum-known-d : tie.Need-enum-known-d
-enum-known-d c = search needs
+enum-known-h : tie.Need-enum-known-h
+enum-known-h c = search needs
 
 enum-told : tie.Need-enum-told
 enum-told c = search needs
@@ -118,7 +118,7 @@ serve-operations-requires c κs =
     let t = s .pre .0 in (
       serves-known t (y .survey-tables .ensures) (k .before .before .before .if1 .left) (table-long t (y .survey-tables .ensures) (y .survey-tables .kept .1 .1 .1 .1 .0))
           (s .pre .1) (k .before .before .if2 .left) (k .before .if3 .left),
-      tag-short _ (sym (k .header .ensures) ∙ ap (ofHeader (s .args .s .now)) (d .d .given .1)),
+      tag-short _ (sym (k .header .ensures) ∙ ap (ofHeader (s .args .s .now)) (d .h .given .1)),
     )
 
 same-length-17 : tie.Need-same-length-17
@@ -147,7 +147,7 @@ returns-5 c =
     let s = y .before .before .before .before .before .before .before .before .before .before .before .before in
     let t = s .pre .0 in
     serves _ _ _ _ _ (t .shaped .geometry) (t .shaped .lengths) (s .pre .1) (survey-sound t (y .survey-tables .ensures) (k .before .before .before .if1 .left))
-    (k .before .before .if2 .left) (k .before .if3 .left) (sym (k .header .ensures) ∙ ap (ofHeader (s .args .s .now)) (d .d .given .1)) (o .serve-operations .ensures)
+    (k .before .before .if2 .left) (k .before .if3 .left) (sym (k .header .ensures) ∙ ap (ofHeader (s .args .s .now)) (d .h .given .1)) (o .serve-operations .ensures)
 
 pub serve-counted-spec : {M : Type 1} → statement M
 serve-counted-spec =
@@ -173,7 +173,7 @@ serve-counted-spec =
     same-length-12
     returns-3
     header-requires
-    enum-known-d
+    enum-known-h
     enum-told
     refused-requires-4
     same-length-13

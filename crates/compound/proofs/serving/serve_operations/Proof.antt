@@ -15,7 +15,7 @@ header-status-requires c κs = search needs
 put-head-requires : tie.Need-put-head-requires
 put-head-requires c κs =
     let k = c .before .before .before in
-    (rw (k .part .ensures) (k .before .before .before .before .before .before .before .before .pre .1), omega (arith, k .before .before .before .before .before .before .before .before .pre .0 .room))
+    (rw (k .part .ensures) (k .before .before .before .before .before .before .before .before .before .pre .1), omega (arith, k .before .before .before .before .before .before .before .before .before .pre .0 .room))
 
 same-length : tie.Need-same-length
 same-length c = search needs
@@ -41,15 +41,15 @@ run-requires c κs =
     let d = c .before .before .before .before .before in
     let e = d .before .before in
     let k = e .before in
-    let s = k .before .before .before .before .before .before .before .before in
-    rw (d .padding .ensures) (runs-all (s .pre .0) _ _ (rw (k .part .ensures) (s .pre .1)) (few-ops (s .args .minor) (s .args .ops) (sym (d .before .if1 .left) ∙ e .header-status .ensures)))
+    let s = k .before .before .before .before .before .before .before .before .before in
+    rw (d .padding .ensures) (runs-all (s .pre .0) _ _ (rw (k .part .ensures) (s .pre .1)) (few-ops (s .args .h .minor) (s .args .h .ops) (sym (d .before .if1 .left) ∙ e .header-status .ensures)))
 
 put-head-requires-2 : tie.Need-put-head-requires-2
 put-head-requires-2 c κs =
     let r = c .before .before .before .before .before .before .before .before .before .before .before in
     let k = r .before .before .before .before .before .before .before .before .before in
-    let s = k .before .before .before .before .before .before .before .before in
-    (rw (k .part .ensures) (s .pre .1), omega (arith, s .pre .0 .room, r .run .kept .1 .1 .1 .1 .1 .1 .1 .1 .1 .1 .0))
+    let s = k .before .before .before .before .before .before .before .before .before in
+    (rw (k .part .ensures) (s .pre .1), omega (arith, s .pre .0 .room, r .run .kept .1 .1 .1 .1 .1 .1 .1 .1 .1 .0))
 
 same-length-2 : tie.Need-same-length-2
 same-length-2 c = search needs
@@ -73,7 +73,7 @@ returns-2 c =
     let d = r .before .before .before .before .before .before in
     let e = d .before .before in
     let k = e .before in
-    let s = k .before .before .before .before .before .before .before .before in
+    let s = k .before .before .before .before .before .before .before .before .before in
     let most = results-fit (s .pre .0) _ _ in
     served-some _ _ _ _ _ _ _ (sym (e .header-status .ensures) ∙ d .before .if1 .left)
     (head-place _ _ _ (ap length (k .part .ensures)) (d .padding .ensures)) (r .run .ensures) (omega (arith, s .pre .0 .room, s .pre .1, ap length (k .part .ensures), d .padding .ensures)) most

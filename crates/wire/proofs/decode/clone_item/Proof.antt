@@ -2,18 +2,8 @@ use mathlib.Core.Path.{sym, ap, _∙_}
 use Rattle.rules.specs.Operation.{cloneArgs, cloneOf}
 use Rattle.wire.specs.Decoded.{ofCloneArgs}
 use Rattle.wire.proofs.RequestLaws.{item-fault, item-got}
-use borrow.Author.Needs.{needs}
 use Rattle.wire.proofs.decode.clone_item.Statement.{statement}
 use Rattle.wire.proofs.decode.clone_item.Tie as tie
-
-clone-args-requires : tie.Need-clone-args-requires
-clone-args-requires c κs = search needs
-
-enum-known-a : tie.Need-enum-known-a
-enum-known-a c = search needs
-
-enum-told : tie.Need-enum-told
-enum-told c = search needs
 
 returns : tie.Need-returns
 returns c =
@@ -28,4 +18,4 @@ returns-2 c =
     sym (item-got cloneArgs cloneOf 71 (sym (k .clone-args .ensures) ∙ ap (ofCloneArgs s) (c .before .a .given .1)))
 
 pub clone-item-spec : {M : Type 1} → statement M
-clone-item-spec = tie.close (tie.spec clone-args-requires enum-known-a enum-told returns returns-2)
+clone-item-spec = tie.close (tie.spec (λ c κs. tt) (λ c. c .match .keys1) (λ c. c .match .keys2) returns returns-2)

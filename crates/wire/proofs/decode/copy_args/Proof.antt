@@ -1,154 +1,68 @@
-use mathlib.Core.Path.{sym, ap, _∙_}
-use Rattle.xdr.specs.Answers.{ofWord}
-use Rattle.xdr.specs.Layout.{uint, boolean, _then_}
-use Rattle.rules.specs.Operation.{cloneArgs}
-use Rattle.wire.specs.Decoded.{ofCloneArgs}
-use Rattle.wire.proofs.RequestLaws.{at-fault, boolean-fault, boolean-got, both-got, clone-stop, first-fault, next-fault}
-use borrow.Author.Needs.{needs}
+use Prim.Native.Nat.{ℕ}
+use mathlib.Core.Bool.{Bool}
+use mathlib.Core.Path.{sym}
+use Rattle.xdr.specs.Layout.{Layout, uint, boolean, _then_}
+use Rattle.rules.specs.Operation.{cloneArgs, copyArgs}
+use Rattle.wire.proofs.RequestLaws.{Fails, first-fault, next-fault, both-got, clone-found, clone-missed, boolean-found, boolean-missed, word-found, word-missed}
 use Rattle.wire.proofs.decode.copy_args.Statement.{statement}
 use Rattle.wire.proofs.decode.copy_args.Tie as tie
 
-clone-args-requires : tie.Need-clone-args-requires
-clone-args-requires c κs = search needs
+-- the fields behind each place
+abbrev two : Layout (Bool × ℕ)
+two = boolean then uint
 
-enum-known-k : tie.Need-enum-known-k
-enum-known-k c = search needs
+abbrev rest : Layout (Bool × (Bool × ℕ))
+rest = boolean then two
 
-enum-told : tie.Need-enum-told
-enum-told c = search needs
+-- a fault behind a place is one of the whole
+first : (c : tie.After-k) → let a = c .before .before .before .before .args in Fails copyArgs (a .s .now) (a .c .at) rest (c .k .given .0 .1 .0 .at)
+first c p e = next-fault cloneArgs rest (clone-found _ (c .before .before .clone-args .ensures) (c .k .given .1)) e
 
-place-requires : tie.Need-place-requires
-place-requires c κs = search needs
+second : (c : tie.After-b) → let a = c .before .before .before .before .before .before .before .before .args in Fails copyArgs (a .s .now) (a .c .at) two (c .b .given .0 .1 .0 .at)
+second c p e = let k = c .before .before in first (k .before .before) p (next-fault boolean two (boolean-found _ _ (k .up-to .ensures) (c .b .given .1)) e)
 
 returns : tie.Need-returns
 returns c =
     let t = c .before in
-    let k1 = t .before .before in
-    let s = k1 .before .before .args .s .now in
-    sym (first-fault cloneArgs (boolean then boolean then uint) (at-fault (c .place .ensures ∙ clone-stop s (k1 .clone-args .result)) (k1 .clone-args .ensures) (ap (ofCloneArgs s) (t .enum-told .given .1))))
-
-up-to-requires : tie.Need-up-to-requires
-up-to-requires c κs = search needs
-
-enum-known-b : tie.Need-enum-known-b
-enum-known-b c = search needs
-
-enum-told-2 : tie.Need-enum-told-2
-enum-told-2 c = search needs
-
-place-requires-2 : tie.Need-place-requires-2
-place-requires-2 c κs = search needs
+    let k = t .before .before in
+    sym (first-fault cloneArgs rest (clone-missed _ (c .place .ensures) (k .clone-args .ensures) (t .enum-told .given .1)))
 
 returns-2 : tie.Need-returns-2
 returns-2 c =
     let t = c .before in
-    let k2 = t .before .before in
-    let v1 = k2 .before .before in
-    let k1 = v1 .before .before in
-    let s = k1 .before .before .args .s .now in
-    sym (next-fault cloneArgs (boolean then boolean then uint)
-    (sym (k1 .clone-args .ensures) ∙ ap (ofCloneArgs s) (v1 .k .given .1))
-    (first-fault boolean (boolean then uint) (boolean-fault _ _ (at-fault (c .place2 .ensures) (k2 .up-to .ensures) (ap ofWord (t .enum-told2 .given .1))))))
-
-up-to-requires-2 : tie.Need-up-to-requires-2
-up-to-requires-2 c κs = search needs
-
-enum-known-d : tie.Need-enum-known-d
-enum-known-d c = search needs
-
-enum-told-3 : tie.Need-enum-told-3
-enum-told-3 c = search needs
-
-place-requires-3 : tie.Need-place-requires-3
-place-requires-3 c κs = search needs
+    let k = t .before .before in
+    sym (first (k .before .before) _ (first-fault boolean two (boolean-missed _ _ (c .place2 .ensures) (k .up-to .ensures) (t .enum-told2 .given .1))))
 
 returns-3 : tie.Need-returns-3
 returns-3 c =
     let t = c .before in
-    let k3 = t .before .before in
-    let v2 = k3 .before .before in
-    let k2 = v2 .before .before in
-    let v1 = k2 .before .before in
-    let k1 = v1 .before .before in
-    let s = k1 .before .before .args .s .now in
-    sym (next-fault cloneArgs (boolean then boolean then uint)
-    (sym (k1 .clone-args .ensures) ∙ ap (ofCloneArgs s) (v1 .k .given .1))
-    (next-fault boolean (boolean then uint)
-    (boolean-got _ _ (sym (k2 .up-to .ensures) ∙ ap ofWord (v2 .b .given .1)))
-    (first-fault boolean uint (boolean-fault _ _ (at-fault (c .place3 .ensures) (k3 .up-to2 .ensures) (ap ofWord (t .enum-told3 .given .1)))))))
-
-word-requires : tie.Need-word-requires
-word-requires c κs = search needs
-
-enum-known-n : tie.Need-enum-known-n
-enum-known-n c = search needs
-
-enum-told-4 : tie.Need-enum-told-4
-enum-told-4 c = search needs
-
-place-requires-4 : tie.Need-place-requires-4
-place-requires-4 c κs = search needs
+    let k = t .before .before in
+    sym (second (k .before .before) _ (first-fault boolean uint (boolean-missed _ _ (c .place3 .ensures) (k .up-to2 .ensures) (t .enum-told3 .given .1))))
 
 returns-4 : tie.Need-returns-4
 returns-4 c =
     let t = c .before in
-    let k4 = t .before .before in
-    let v3 = k4 .before .before in
-    let k3 = v3 .before .before in
-    let v2 = k3 .before .before in
-    let k2 = v2 .before .before in
-    let v1 = k2 .before .before in
-    let k1 = v1 .before .before in
-    let s = k1 .before .before .args .s .now in
-    sym (next-fault cloneArgs (boolean then boolean then uint)
-    (sym (k1 .clone-args .ensures) ∙ ap (ofCloneArgs s) (v1 .k .given .1))
-    (next-fault boolean (boolean then uint)
-    (boolean-got _ _ (sym (k2 .up-to .ensures) ∙ ap ofWord (v2 .b .given .1)))
-    (next-fault boolean uint
-    (boolean-got _ _ (sym (k3 .up-to2 .ensures) ∙ ap ofWord (v3 .d .given .1)))
-    (at-fault (c .place4 .ensures) (k4 .word .ensures) (ap ofWord (t .enum-told4 .given .1))))))
+    let k = t .before .before in
+    let v = k .before .before in
+    let h = v .before .before in
+    sym (second (h .before .before) _ (next-fault boolean uint (boolean-found _ _ (h .up-to2 .ensures) (v .d .given .1)) (word-missed (c .place4 .ensures) (k .word .ensures) (t .enum-told4 .given .1))))
 
 returns-5 : tie.Need-returns-5
 returns-5 c =
-    let v4 = c .before in
-    let k4 = v4 .before .before in
-    let v3 = k4 .before .before in
-    let k3 = v3 .before .before in
-    let v2 = k3 .before .before in
-    let k2 = v2 .before .before in
-    let v1 = k2 .before .before in
-    let k1 = v1 .before .before in
-    let s = k1 .before .before .args .s .now in
-    sym (both-got cloneArgs (boolean then boolean then uint)
-    (sym (k1 .clone-args .ensures) ∙ ap (ofCloneArgs s) (v1 .k .given .1))
-    (both-got boolean (boolean then uint)
-    (boolean-got _ _ (sym (k2 .up-to .ensures) ∙ ap ofWord (v2 .b .given .1)))
-    (both-got boolean uint
-    (boolean-got _ _ (sym (k3 .up-to2 .ensures) ∙ ap ofWord (v3 .d .given .1)))
-    (sym (k4 .word .ensures) ∙ ap ofWord (v4 .n .given .1)))))
+    let n = c .before in
+    let d = n .before .before .before .before in
+    let b = d .before .before .before .before in
+    let k = b .before .before .before .before in
+    sym (both-got cloneArgs rest (clone-found _ (k .before .before .clone-args .ensures) (k .k .given .1))
+    (both-got boolean two (boolean-found _ _ (b .before .before .up-to .ensures) (b .b .given .1))
+    (both-got boolean uint (boolean-found _ _ (d .before .before .up-to2 .ensures) (d .d .given .1)) (word-found (n .before .before .word .ensures) (n .n .given .1)))))
 
 pub copy-args-spec : {M : Type 1} → statement M
 copy-args-spec =
     tie.close
     (tie.spec
-    clone-args-requires
-    enum-known-k
-    enum-told
-    place-requires
-    returns
-    up-to-requires
-    enum-known-b
-    enum-told-2
-    place-requires-2
-    returns-2
-    up-to-requires-2
-    enum-known-d
-    enum-told-3
-    place-requires-3
-    returns-3
-    word-requires
-    enum-known-n
-    enum-told-4
-    place-requires-4
-    returns-4
+    (λ c κs. tt) (λ c. c .match .keys1) (λ c. c .match .keys2) (λ c κs. tt) returns
+    (λ c κs. tt) (λ c. c .match2 .keys1) (λ c. c .match2 .keys2) (λ c κs. tt) returns-2
+    (λ c κs. tt) (λ c. c .match3 .keys1) (λ c. c .match3 .keys2) (λ c κs. tt) returns-3
+    (λ c κs. tt) (λ c. c .match4 .keys1) (λ c. c .match4 .keys2) (λ c κs. tt) returns-4
     returns-5)

@@ -1,18 +1,8 @@
 use mathlib.Core.Path.{sym, ap, _∙_}
 use Rattle.wire.specs.Decoded.{ofCopyArgs}
 use Rattle.wire.proofs.RequestLaws.{copy-fault, copy-servers, copy-got}
-use borrow.Author.Needs.{needs}
 use Rattle.wire.proofs.decode.copy_item.Statement.{statement}
 use Rattle.wire.proofs.decode.copy_item.Tie as tie
-
-copy-args-requires : tie.Need-copy-args-requires
-copy-args-requires c κs = search needs
-
-enum-known-a : tie.Need-enum-known-a
-enum-known-a c = search needs
-
-enum-told : tie.Need-enum-told
-enum-told c = search needs
 
 returns : tie.Need-returns
 returns c =
@@ -35,5 +25,4 @@ returns-3 c =
     sym (copy-got _ _ _ _ _ _ _ (sym (k .copy-args .ensures) ∙ ap (ofCopyArgs s) (v .a .given .1)) (c .if1 .left))
 
 pub copy-item-spec : {M : Type 1} → statement M
-copy-item-spec =
-    tie.close (tie.spec copy-args-requires enum-known-a enum-told returns returns-2 returns-3)
+copy-item-spec = tie.close (tie.spec (λ c κs. tt) (λ c. c .match .keys1) (λ c. c .match .keys2) returns returns-2 returns-3)

@@ -2,18 +2,8 @@ use mathlib.Core.Path.{sym, ap, _∙_}
 use Rattle.rules.specs.Operation.{handleArgs, PUTFH}
 use Rattle.wire.specs.Decoded.{ofHandle}
 use Rattle.wire.proofs.RequestLaws.{item-fault, item-got}
-use borrow.Author.Needs.{needs}
 use Rattle.wire.proofs.decode.put_fh_item.Statement.{statement}
 use Rattle.wire.proofs.decode.put_fh_item.Tie as tie
-
-handle-args-requires : tie.Need-handle-args-requires
-handle-args-requires c κs = search needs
-
-enum-known-h : tie.Need-enum-known-h
-enum-known-h c = search needs
-
-enum-told : tie.Need-enum-told
-enum-told c = search needs
 
 returns : tie.Need-returns
 returns c =
@@ -28,5 +18,4 @@ returns-2 c =
     sym (item-got handleArgs PUTFH 22 (sym (k .handle-args .ensures) ∙ ap (ofHandle s) (c .before .h .given .1)))
 
 pub put-fh-item-spec : {M : Type 1} → statement M
-put-fh-item-spec =
-    tie.close (tie.spec handle-args-requires enum-known-h enum-told returns returns-2)
+put-fh-item-spec = tie.close (tie.spec (λ c κs. tt) (λ c. c .match .keys1) (λ c. c .match .keys2) returns returns-2)

@@ -2,18 +2,8 @@ use mathlib.Core.Path.{sym, ap, _∙_}
 use Rattle.rules.specs.Operation.{writeArgs, writeOf}
 use Rattle.wire.specs.Decoded.{ofWriteArgs}
 use Rattle.wire.proofs.RequestLaws.{item-fault, item-got}
-use borrow.Author.Needs.{needs}
 use Rattle.wire.proofs.decode.write_item.Statement.{statement}
 use Rattle.wire.proofs.decode.write_item.Tie as tie
-
-write-args-requires : tie.Need-write-args-requires
-write-args-requires c κs = search needs
-
-enum-known-a : tie.Need-enum-known-a
-enum-known-a c = search needs
-
-enum-told : tie.Need-enum-told
-enum-told c = search needs
 
 returns : tie.Need-returns
 returns c =
@@ -28,4 +18,4 @@ returns-2 c =
     sym (item-got writeArgs writeOf 38 (sym (k .write-args .ensures) ∙ ap (ofWriteArgs s) (c .before .a .given .1)))
 
 pub write-item-spec : {M : Type 1} → statement M
-write-item-spec = tie.close (tie.spec write-args-requires enum-known-a enum-told returns returns-2)
+write-item-spec = tie.close (tie.spec (λ c κs. tt) (λ c. c .match .keys1) (λ c. c .match .keys2) returns returns-2)

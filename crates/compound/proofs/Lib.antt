@@ -4,6 +4,7 @@ pub mod HandleOps
 pub mod EditOps
 pub mod CloneOps
 pub mod SpliceLaws
+pub mod PieceLaws
 pub mod ReadOps
 pub mod LoopLaws
 pub mod ServeLaws

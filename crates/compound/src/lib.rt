@@ -3,6 +3,7 @@ mod answer;
 mod clones;
 mod edits;
 mod handles;
+mod pieces;
 mod reads;
 mod region;
 mod run;

@@ -15,5 +15,8 @@ pub use operation::ReadArgs;
 pub use operation::RegionArgs;
 pub use operation::WriteArgs;
 pub use result::put_copied;
+pub use result::put_data_head;
+pub use result::put_hole;
 pub use result::put_result;
+pub use result::put_sought;
 pub use result::put_written;

@@ -1,8 +1,8 @@
 use native.Mathlib.Omega.{arith}
 use borrow.Author.Needs.{needs}
 use Rattle.xdr.proofs.BytesLaws.{written-then}
-use Rattle.store.proofs.read.put_hole.Statement.{statement}
-use Rattle.store.proofs.read.put_hole.Tie as tie
+use Rattle.wire.proofs.result.put_hole.Statement.{statement}
+use Rattle.wire.proofs.result.put_hole.Tie as tie
 
 put-u32-requires : tie.Need-put-u32-requires
 put-u32-requires c κs = search needs

@@ -4,12 +4,12 @@ use mathlib.Core.List.{List}
 use native.Mathlib.Omega.{arith}
 use native.Mathlib.Nat.{le-refl}
 use lib.ListN.{length}
 use Rattle.store.specs.Lent.{geometryOf}
 use Rattle.rules.proofs.GeometryLaws.{good, file-most}
 use Rattle.store.proofs.PlaceLaws.{placed, readable-to}
-use Rattle.store.proofs.ScanLaws.{Left, left-all, left-room, left-on, left-none}
-use Rattle.store.proofs.read.put_pieces.Statement.{statement}
-use Rattle.store.proofs.read.put_pieces.Tie as tie
+use Rattle.compound.proofs.PieceLaws.{Left, left-all, left-room, left-on, left-none}
+use Rattle.compound.proofs.pieces.put_pieces.Statement.{statement}
+use Rattle.compound.proofs.pieces.put_pieces.Tie as tie
 
 abbrev Inv-loop : tie.InvT-loop
 Inv-loop g words mem f off end out₀ at i₀ count₀ next₀ out i count next =

@@ -1,6 +1,6 @@
 use borrow.Author.Needs.{needs}
-use Rattle.store.proofs.read.put_piece.Statement.{statement}
-use Rattle.store.proofs.read.put_piece.Tie as tie
+use Rattle.compound.proofs.pieces.put_piece.Statement.{statement}
+use Rattle.compound.proofs.pieces.put_piece.Tie as tie
 
 hole-at-requires : tie.Need-hole-at-requires
 hole-at-requires c κs = search needs

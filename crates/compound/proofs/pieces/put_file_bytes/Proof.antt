@@ -6,9 +6,10 @@ use Rattle.xdr.specs.Encode.{opaque}
 use Rattle.xdr.proofs.BytesLaws.{written-then}
 use Rattle.rules.proofs.GeometryLaws.{good, file-most}
 use Rattle.rules.proofs.SlotByteLaws.{length-tab}
-use Rattle.store.proofs.PlaceLaws.{readable-to, read-written}
-use Rattle.store.proofs.read.put_file_bytes.Statement.{statement}
-use Rattle.store.proofs.read.put_file_bytes.Tie as tie
+use Rattle.store.proofs.PlaceLaws.{readable-to}
+use Rattle.compound.proofs.PieceLaws.{lent-read}
+use Rattle.compound.proofs.pieces.put_file_bytes.Statement.{statement}
+use Rattle.compound.proofs.pieces.put_file_bytes.Tie as tie
 
 cast-put-u32 : tie.Need-cast-put-u32
 cast-put-u32 c =
@@ -57,7 +58,7 @@ returns c =
     let w-kept = w .put-u32 .kept .0 in
     λ sizes. rw (length-tab _ (s .args .n) (s .args .i))
     (written-then (omega arith) (w .put-u32 .ensures)
-    (written-then (omega arith) (read-written _ (w .put-u32 .last .0) _ _ (w .put-u32 .result) (s .args .n) (omega arith) (r .read-bytes .ensures sizes))
+    (written-then (omega arith) (lent-read _ (w .put-u32 .last .0) _ _ (w .put-u32 .result) (s .args .n) (omega arith) (r .read-bytes .ensures sizes))
     (rw (z .before .padding .ensures) at (z .put-zeros .ensures))))
 
 pub put-file-bytes-spec : {M : Type 1} → statement M

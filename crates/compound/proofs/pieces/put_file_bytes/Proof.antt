@@ -16,35 +16,11 @@ cast-put-u32 c =
     let s = c .before .before .before .before in
     omega (arith, s .pre .0 .fits, file-most _ (good _ (s .pre .0 .geometry)))
 
-put-u32-requires : tie.Need-put-u32-requires
-put-u32-requires c κs = search needs
-
-add-end : tie.Need-add-end
-add-end c = search needs
-
-sub-read-bytes : tie.Need-sub-read-bytes
-sub-read-bytes c = search needs
-
-part-read-bytes-start : tie.Need-part-read-bytes-start
-part-read-bytes-start c = search needs
-
-part-read-bytes-end : tie.Need-part-read-bytes-end
-part-read-bytes-end c = search needs
-
 read-bytes-requires : tie.Need-read-bytes-requires
 read-bytes-requires c κs =
     let w = c .before .before .before in
     let s = w .before .before .before .before .before in
     readable-to (s .pre .0) _ (omega (arith, mid-len (w .put-u32 .result) (w .put-u32 .result + s .args .n) (w .put-u32 .last .0) (omega arith)))
-
-padding-requires : tie.Need-padding-requires
-padding-requires c κs = search needs
-
-put-zeros-requires : tie.Need-put-zeros-requires
-put-zeros-requires c κs = search needs
-
-same-length : tie.Need-same-length
-same-length c = search needs
 
 returns : tie.Need-returns
 unfolding opaque
@@ -65,14 +41,6 @@ pub put-file-bytes-spec : {M : Type 1} → statement M
 put-file-bytes-spec =
     tie.close
     (tie.spec
-    cast-put-u32
-    put-u32-requires
-    add-end
-    sub-read-bytes
-    part-read-bytes-start
-    part-read-bytes-end
-    read-bytes-requires
-    padding-requires
-    put-zeros-requires
-    same-length
+    cast-put-u32 (λ c κs. search needs) (λ c. search needs) (λ c. search needs) (λ c. search needs)
+    (λ c. search needs) read-bytes-requires (λ c κs. search needs) (λ c κs. search needs) (λ c. search needs)
     returns)

@@ -2,18 +2,12 @@ use borrow.Author.Needs.{needs}
 use Rattle.compound.proofs.pieces.put_piece.Statement.{statement}
 use Rattle.compound.proofs.pieces.put_piece.Tie as tie
 
-hole-at-requires : tie.Need-hole-at-requires
-hole-at-requires c κs = search needs
-
 put-hole-requires : tie.Need-put-hole-requires
 put-hole-requires c κs =
     let i = c .before in
     let k = i .before in
     let s = k .before .before .before .before in
     rw (← k .hole-at .ensures, i .if1 .taken) at (s .pre .room)
-
-same-length : tie.Need-same-length
-same-length c = search needs
 
 returns : tie.Need-returns
 returns c =
@@ -28,9 +22,6 @@ put-data-requires c κs =
     let s = k .before .before .before .before in
     (s .pre .readable, rw (← k .hole-at .ensures, i .if1 .left) at (s .pre .room))
 
-same-length-2 : tie.Need-same-length-2
-same-length-2 c = search needs
-
 returns-2 : tie.Need-returns-2
 returns-2 c =
     let d = c .before .before in
@@ -41,10 +32,5 @@ pub put-piece-spec : {M : Type 1} → statement M
 put-piece-spec =
     tie.close
     (tie.spec
-    hole-at-requires
-    put-hole-requires
-    same-length
-    returns
-    put-data-requires
-    same-length-2
-    returns-2)
+    (λ c κs. search needs) put-hole-requires (λ c. search needs) returns
+    put-data-requires (λ c. search needs) returns-2)

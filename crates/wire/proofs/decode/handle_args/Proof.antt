@@ -3,11 +3,11 @@ use borrow.Author.Needs.{needs}
 use Rattle.wire.proofs.decode.handle_args.Statement.{statement}
 use Rattle.wire.proofs.decode.handle_args.Tie as tie
 
-opaque-requires : tie.Need-opaque-requires
-opaque-requires c κs = search needs
-
 returns : tie.Need-returns
 returns c = handle-read _ _ (c .opaque .result) (c .opaque .ensures)
 
 pub handle-args-spec : {M : Type 1} → statement M
-handle-args-spec = tie.close (tie.spec opaque-requires returns)
+handle-args-spec =
+    tie.close
+    (tie.spec
+    (λ c κs. search needs) returns)

@@ -4,27 +4,6 @@ use Rattle.wire.proofs.FieldLaws.{written-sized, written-more}
 use Rattle.wire.proofs.result.put_copied.Statement.{statement}
 use Rattle.wire.proofs.result.put_copied.Tie as tie
 
-put-u32-requires : tie.Need-put-u32-requires
-put-u32-requires c κs = search needs
-
-put-u64-requires : tie.Need-put-u64-requires
-put-u64-requires c κs = search needs
-
-put-u32-requires-2 : tie.Need-put-u32-requires-2
-put-u32-requires-2 c κs = search needs
-
-put-bytes-requires : tie.Need-put-bytes-requires
-put-bytes-requires c κs = search needs
-
-put-bool-requires : tie.Need-put-bool-requires
-put-bool-requires c κs = search needs
-
-put-bool-requires-2 : tie.Need-put-bool-requires-2
-put-bool-requires-2 c κs = search needs
-
-same-length : tie.Need-same-length
-same-length c = search needs
-
 returns : tie.Need-returns
 returns c =
     let y = c .before .before in
@@ -45,11 +24,5 @@ pub put-copied-spec : {M : Type 1} → statement M
 put-copied-spec =
     tie.close
     (tie.spec
-    put-u32-requires
-    put-u64-requires
-    put-u32-requires-2
-    put-bytes-requires
-    put-bool-requires
-    put-bool-requires-2
-    same-length
-    returns)
+    (λ c κs. search needs) (λ c κs. search needs) (λ c κs. search needs) (λ c κs. search needs)
+    (λ c κs. search needs) (λ c κs. search needs) (λ c. search needs) returns)

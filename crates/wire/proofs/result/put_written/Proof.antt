@@ -4,18 +4,6 @@ use Rattle.wire.proofs.FieldLaws.{written-sized, written-more}
 use Rattle.wire.proofs.result.put_written.Statement.{statement}
 use Rattle.wire.proofs.result.put_written.Tie as tie
 
-put-u32-requires : tie.Need-put-u32-requires
-put-u32-requires c κs = search needs
-
-put-u32-requires-2 : tie.Need-put-u32-requires-2
-put-u32-requires-2 c κs = search needs
-
-put-bytes-requires : tie.Need-put-bytes-requires
-put-bytes-requires c κs = search needs
-
-same-length : tie.Need-same-length
-same-length c = search needs
-
 returns : tie.Need-returns
 returns c =
     let v = c .before .before in
@@ -27,4 +15,6 @@ returns c =
 
 pub put-written-spec : {M : Type 1} → statement M
 put-written-spec =
-    tie.close (tie.spec put-u32-requires put-u32-requires-2 put-bytes-requires same-length returns)
+    tie.close
+    (tie.spec
+    (λ c κs. search needs) (λ c κs. search needs) (λ c κs. search needs) (λ c. search needs) returns)

@@ -9,9 +9,6 @@ use Rattle.store.proofs.allocate.allocate_file.Tie as tie
 add-end : tie.Need-add-end
 add-end c = let s = c .before .before .before .before in omega (arith, region-room (s .pre))
 
-slot-count-requires : tie.Need-slot-count-requires
-slot-count-requires c κs = search needs
-
 mul-i : tie.Need-mul-i
 mul-i c = let s = c .before .before .before .before .before .before in omega (arith, region-inside (s .pre))
 
@@ -39,12 +36,6 @@ plan-allocate-requires c κs =
     let s = k .before .before .before .before .before in
     (s .pre .known .counted, (rw (k .slot-count .ensures) (region-inside (s .pre)), saved-long (s .pre) (k .slot-count .ensures) _ refl))
 
-same-length : tie.Need-same-length
-same-length c = search needs
-
-same-length-2 : tie.Need-same-length-2
-same-length-2 c = search needs
-
 returns : tie.Need-returns
 returns c =
     let p = c .before .before .before .before .before .before in
@@ -56,15 +47,6 @@ grow-requires : tie.Need-grow-requires
 grow-requires c κs =
     let s = c .before .before .before .before .before .before .before .before .before .before .before .before .before .before .before .before .before .before in
     region-file (s .pre)
-
-same-length-3 : tie.Need-same-length-3
-same-length-3 c = search needs
-
-same-length-4 : tie.Need-same-length-4
-same-length-4 c = search needs
-
-same-length-5 : tie.Need-same-length-5
-same-length-5 c = search needs
 
 returns-2 : tie.Need-returns-2
 returns-2 c =
@@ -79,19 +61,6 @@ pub allocate-file-spec : {M : Type 1} → statement M
 allocate-file-spec =
     tie.close
     (tie.spec
-    add-end
-    slot-count-requires
-    mul-i
-    div-i
-    add-i
-    array-borrow-prefix-saved
-    slice-aggregate-plan-allocate
-    plan-allocate-requires
-    same-length
-    same-length-2
-    returns
-    grow-requires
-    same-length-3
-    same-length-4
-    same-length-5
-    returns-2)
+    add-end (λ c κs. search needs) mul-i div-i add-i array-borrow-prefix-saved slice-aggregate-plan-allocate
+    plan-allocate-requires (λ c. search needs) (λ c. search needs) returns
+    grow-requires (λ c. search needs) (λ c. search needs) (λ c. search needs) returns-2)

@@ -4,9 +4,6 @@ use borrow.Author.Needs.{needs}
 use Rattle.store.proofs.bytes.zero_edge.Statement.{statement}
 use Rattle.store.proofs.bytes.zero_edge.Tie as tie
 
-slot-stays-requires : tie.Need-slot-stays-requires
-slot-stays-requires c κs = search needs
-
 returns : tie.Need-returns
 unfolding zeroEdge
 returns c = rw (← c .before .slot-stays .ensures, c .if1 .taken)
@@ -16,9 +13,6 @@ zero-slot-requires c κs =
     let s = c .before .before in
     s .before .before .pre .touched (sym (s .slot-stays .ensures) ∙ c .before .if1 .left)
 
-same-length : tie.Need-same-length
-same-length c = search needs
-
 returns-2 : tie.Need-returns-2
 unfolding zeroEdge
 returns-2 c =
@@ -27,4 +21,8 @@ returns-2 c =
     rw (← t .before .slot-stays .ensures, t .if1 .left) (z .zero-slot .ensures)
 
 pub zero-edge-spec : {M : Type 1} → statement M
-zero-edge-spec = tie.close (tie.spec slot-stays-requires returns zero-slot-requires same-length returns-2)
+zero-edge-spec =
+    tie.close
+    (tie.spec
+    (λ c κs. search needs) returns
+    zero-slot-requires (λ c. search needs) returns-2)

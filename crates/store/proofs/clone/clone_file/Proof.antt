@@ -82,12 +82,6 @@ plan-clone-requires c κs =
     let r = clone-room (s .pre) (t .if1 .left) in
     (s .pre .known .counted, (r .from-inside, (r .to-inside, length-take-le _ _ (omega (arith, r)))))
 
-same-length : tie.Need-same-length
-same-length c = search needs
-
-same-length-2 : tie.Need-same-length-2
-same-length-2 c = search needs
-
 returns-2 : tie.Need-returns-2
 returns-2 c =
     let k = c .before .before .before .before .before .before in
@@ -107,15 +101,6 @@ grow-requires c κs =
     let s = t .before .before .before .before .before in
     clone-room (s .pre) (t .if1 .left) .file-inside
 
-same-length-3 : tie.Need-same-length-3
-same-length-3 c = search needs
-
-same-length-4 : tie.Need-same-length-4
-same-length-4 c = search needs
-
-same-length-5 : tie.Need-same-length-5
-same-length-5 c = search needs
-
 returns-3 : tie.Need-returns-3
 returns-3 c =
     let d = c .before .before in
@@ -130,24 +115,6 @@ clone-file-spec =
     tie.close
     (tie.spec
     returns
-    mul-source
-    div-source
-    add-source
-    mul-to
-    div-to
-    add-to
-    sub-count
-    add-count
-    div-count
-    array-borrow-prefix-saved
-    slice-aggregate-plan-clone
-    plan-clone-requires
-    same-length
-    same-length-2
-    returns-2
-    add-grow
-    grow-requires
-    same-length-3
-    same-length-4
-    same-length-5
-    returns-3)
+    mul-source div-source add-source mul-to div-to add-to sub-count add-count div-count array-borrow-prefix-saved
+    slice-aggregate-plan-clone plan-clone-requires (λ c. search needs) (λ c. search needs) returns-2
+    add-grow grow-requires (λ c. search needs) (λ c. search needs) (λ c. search needs) returns-3)

@@ -23,15 +23,6 @@ plan-write-requires c κs =
     let s = c .before .before .before .before .before .before .before .before .before in
     (s .pre .0 .region .known .counted, (slots-inside (s .pre .0), refl))
 
-same-length : tie.Need-same-length
-same-length c = search needs
-
-same-length-2 : tie.Need-same-length-2
-same-length-2 c = search needs
-
-same-length-3 : tie.Need-same-length-3
-same-length-3 c = search needs
-
 returns : tie.Need-returns
 returns c =
     let k = c .before .before .before .before .before .before .before in
@@ -42,12 +33,6 @@ mul-new : tie.Need-mul-new
 mul-new c =
     let s = c .before .before .before .before .before .before .before .before .before .before .before .before .before .before .before .before .before .before in
     omega (arith, slots-inside (s .pre .0))
-
-sub-new : tie.Need-sub-new
-sub-new c = search needs
-
-part-new-start : tie.Need-part-new-start
-part-new-start c = search needs
 
 part-new-end : tie.Need-part-new-end
 part-new-end c =
@@ -62,21 +47,6 @@ finish-copy-requires c κs =
     let s = k .before .before .before .before .before .before .before .before .before .before in
     (copies-ready (s .pre .0) (s .pre .1) (k .plan-write .kept .1 .0) (k .plan-write .ensures) (t .if1 .left), file-inside (s .pre .0))
 
-same-length-4 : tie.Need-same-length-4
-same-length-4 c = search needs
-
-same-length-5 : tie.Need-same-length-5
-same-length-5 c = search needs
-
-same-length-6 : tie.Need-same-length-6
-same-length-6 c = search needs
-
-same-length-7 : tie.Need-same-length-7
-same-length-7 c = search needs
-
-same-length-8 : tie.Need-same-length-8
-same-length-8 c = search needs
-
 returns-2 : tie.Need-returns-2
 returns-2 c =
     let d = c .before .before .before .before in
@@ -89,23 +59,7 @@ pub copy-planned-spec : {M : Type 1} → statement M
 copy-planned-spec =
     tie.close
     (tie.spec
-    mul-i
-    add-i
-    add-to
-    add-end
-    plan-write-requires
-    same-length
-    same-length-2
-    same-length-3
+    mul-i add-i add-to add-end plan-write-requires (λ c. search needs) (λ c. search needs) (λ c. search needs)
     returns
-    mul-new
-    sub-new
-    part-new-start
-    part-new-end
-    finish-copy-requires
-    same-length-4
-    same-length-5
-    same-length-6
-    same-length-7
-    same-length-8
-    returns-2)
+    mul-new (λ c. search needs) (λ c. search needs) part-new-end finish-copy-requires (λ c. search needs)
+    (λ c. search needs) (λ c. search needs) (λ c. search needs) (λ c. search needs) returns-2)

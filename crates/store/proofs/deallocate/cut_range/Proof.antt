@@ -37,15 +37,6 @@ plan-deallocate-requires c κs =
     let k = s .pre .slots in
     (k .region .known .counted, (slots-inside k, (k .region .known .shaped .geometry, (omega (arith, region-room (k .region) .slots, k .first-is, k .count-is), refl))))
 
-same-length : tie.Need-same-length
-same-length c = search needs
-
-same-length-2 : tie.Need-same-length-2
-same-length-2 c = search needs
-
-same-length-3 : tie.Need-same-length-3
-same-length-3 c = search needs
-
 returns : tie.Need-returns
 returns c =
     let k = c .before .before .before .before .before .before .before in
@@ -56,12 +47,6 @@ mul-zero-edges : tie.Need-mul-zero-edges
 mul-zero-edges c =
     let s = c .before .before .before .before .before .before .before .before .before .before .before .before .before .before .before .before .before .before .before .before in
     omega (arith, slots-inside (s .pre .slots))
-
-sub-zero-edges : tie.Need-sub-zero-edges
-sub-zero-edges c = search needs
-
-part-zero-edges-start : tie.Need-part-zero-edges-start
-part-zero-edges-start c = search needs
 
 part-zero-edges-end : tie.Need-part-zero-edges-end
 part-zero-edges-end c =
@@ -76,18 +61,6 @@ zero-edges-requires c κs =
     let s = k .before .before .before .before .before .before .before .before .before .before .before in
     cut-touched (s .pre) (k .plan-deallocate .kept .1 .1 .0) (k .plan-deallocate .ensures) (t .if1 .left) (k .plan-deallocate .kept .1 .0)
 
-same-length-4 : tie.Need-same-length-4
-same-length-4 c = search needs
-
-same-length-5 : tie.Need-same-length-5
-same-length-5 c = search needs
-
-same-length-6 : tie.Need-same-length-6
-same-length-6 c = search needs
-
-same-length-7 : tie.Need-same-length-7
-same-length-7 c = search needs
-
 returns-2 : tie.Need-returns-2
 returns-2 c =
     let z = c .before .before in
@@ -100,23 +73,7 @@ pub cut-range-spec : {M : Type 1} → statement M
 cut-range-spec =
     tie.close
     (tie.spec
-    mul-at
-    add-i
-    add-last
-    mul-size
-    shared-slice-read-size
-    plan-deallocate-requires
-    same-length
-    same-length-2
-    same-length-3
-    returns
-    mul-zero-edges
-    sub-zero-edges
-    part-zero-edges-start
-    part-zero-edges-end
-    zero-edges-requires
-    same-length-4
-    same-length-5
-    same-length-6
-    same-length-7
-    returns-2)
+    mul-at add-i add-last mul-size shared-slice-read-size plan-deallocate-requires (λ c. search needs)
+    (λ c. search needs) (λ c. search needs) returns
+    mul-zero-edges (λ c. search needs) (λ c. search needs) part-zero-edges-end zero-edges-requires
+    (λ c. search needs) (λ c. search needs) (λ c. search needs) (λ c. search needs) returns-2)

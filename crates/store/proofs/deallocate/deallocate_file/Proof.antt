@@ -45,29 +45,10 @@ cut-range-requires c κs =
     let r = cut-region (s .pre) (t .if1 .left) in
     record { slots = saved-slots r (k .slot-count .ensures) _ refl; cut = s .pre .cut }
 
-same-length : tie.Need-same-length
-same-length c = search needs
-
-same-length-2 : tie.Need-same-length-2
-same-length-2 c = search needs
-
-same-length-3 : tie.Need-same-length-3
-same-length-3 c = search needs
-
-returns-2 : tie.Need-returns-2
-returns-2 c = search needs
-
 pub deallocate-file-spec : {M : Type 1} → statement M
 deallocate-file-spec =
     tie.close
     (tie.spec
     returns
-    slot-count-requires
-    div-cut-range
-    array-borrow-prefix-saved
-    slice-aggregate-cut-range
-    cut-range-requires
-    same-length
-    same-length-2
-    same-length-3
-    returns-2)
+    slot-count-requires div-cut-range array-borrow-prefix-saved slice-aggregate-cut-range cut-range-requires
+    (λ c. search needs) (λ c. search needs) (λ c. search needs) (λ c. search needs))

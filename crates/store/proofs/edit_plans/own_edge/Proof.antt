@@ -4,20 +4,8 @@ use Rattle.store.proofs.OwnLaws.{slot-left, slot-asked}
 use Rattle.store.proofs.edit_plans.own_edge.Statement.{statement}
 use Rattle.store.proofs.edit_plans.own_edge.Tie as tie
 
-slot-stays-requires : tie.Need-slot-stays-requires
-slot-stays-requires c κs = search needs
-
 returns : tie.Need-returns
 returns c = slot-left (sym (c .before .slot-stays .ensures) ∙ c .if1 .taken) (c .before .before .before .before .pre .0)
-
-own-slot-requires : tie.Need-own-slot-requires
-own-slot-requires c κs = search needs
-
-same-length : tie.Need-same-length
-same-length c = search needs
-
-same-length-2 : tie.Need-same-length-2
-same-length-2 c = search needs
 
 returns-2 : tie.Need-returns-2
 returns-2 c =
@@ -28,4 +16,6 @@ returns-2 c =
 pub own-edge-spec : {M : Type 1} → statement M
 own-edge-spec =
     tie.close
-    (tie.spec slot-stays-requires returns own-slot-requires same-length same-length-2 returns-2)
+    (tie.spec
+    (λ c κs. search needs) returns
+    (λ c κs. search needs) (λ c. search needs) (λ c. search needs) returns-2)

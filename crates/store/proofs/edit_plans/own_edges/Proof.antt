@@ -25,9 +25,6 @@ add-k c = omega arith
 add-own-edge : tie.Need-add-own-edge Inv-loop μ-loop
 add-own-edge c = omega arith
 
-mul-own-edge : tie.Need-mul-own-edge Inv-loop μ-loop
-mul-own-edge c = search needs
-
 shared-slice-read-own-edge : tie.Need-shared-slice-read-own-edge Inv-loop μ-loop
 shared-slice-read-own-edge c = omega arith
 
@@ -87,20 +84,7 @@ pub own-edges-spec : {M : Type 1} → statement M
 own-edges-spec =
     tie.close
     (tie.spec
-    Inv-loop
-    μ-loop
-    loop-holds
-    add-k
-    add-own-edge
-    mul-own-edge
-    shared-slice-read-own-edge
-    own-edge-requires
-    same-length
-    same-length-2
-    returns
-    add-j
-    loop-less
-    loop-again
-    same-length-3
-    same-length-4
-    returns-2)
+    Inv-loop μ-loop loop-holds add-k add-own-edge (λ c. search needs) shared-slice-read-own-edge own-edge-requires
+    same-length same-length-2 returns
+    add-j loop-less loop-again
+    same-length-3 same-length-4 returns-2)

@@ -5,27 +5,6 @@ use Rattle.store.proofs.SettleLaws.{saved-pool, plan-settled}
 use Rattle.store.proofs.edit_plans.plan_allocate.Statement.{statement}
 use Rattle.store.proofs.edit_plans.plan_allocate.Tie as tie
 
-add-end : tie.Need-add-end
-add-end c = search needs
-
-mul-save-words : tie.Need-mul-save-words
-mul-save-words c = search needs
-
-sub-save-words : tie.Need-sub-save-words
-sub-save-words c = search needs
-
-part-save-words-start : tie.Need-part-save-words-start
-part-save-words-start c = search needs
-
-part-save-words-end : tie.Need-part-save-words-end
-part-save-words-end c = search needs
-
-save-words-requires : tie.Need-save-words-requires
-save-words-requires c κs = search needs
-
-reserve-range-requires : tie.Need-reserve-range-requires
-reserve-range-requires c κs = search needs
-
 settle-requires : tie.Need-settle-requires
 settle-requires c κs =
     let o = c .before .before .before .before .before .before .before in
@@ -33,15 +12,6 @@ settle-requires c κs =
     let s = k .before .before .before .before .before .before .before in
     let a = s .args in
     (o .reserve-range .ensures .counted, (omega arith, rw (o .reserve-range .kept .1 .0) (saved-pool _ (a .i) (a .n) _ (k .save-words .ensures) _ (s .pre .0 .pool))))
-
-same-length : tie.Need-same-length
-same-length c = search needs
-
-same-length-2 : tie.Need-same-length-2
-same-length-2 c = search needs
-
-same-length-3 : tie.Need-same-length-3
-same-length-3 c = search needs
 
 returns : tie.Need-returns
 returns c =
@@ -56,15 +26,6 @@ pub plan-allocate-spec : {M : Type 1} → statement M
 plan-allocate-spec =
     tie.close
     (tie.spec
-    add-end
-    mul-save-words
-    sub-save-words
-    part-save-words-start
-    part-save-words-end
-    save-words-requires
-    reserve-range-requires
-    settle-requires
-    same-length
-    same-length-2
-    same-length-3
-    returns)
+    (λ c. search needs) (λ c. search needs) (λ c. search needs) (λ c. search needs) (λ c. search needs)
+    (λ c κs. search needs) (λ c κs. search needs) settle-requires (λ c. search needs) (λ c. search needs)
+    (λ c. search needs) returns)

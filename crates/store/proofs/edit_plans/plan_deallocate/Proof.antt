@@ -7,30 +7,6 @@ use Rattle.store.proofs.SettleLaws.{saved-is, saved-pool, plan-outside,
 use Rattle.store.proofs.edit_plans.plan_deallocate.Statement.{statement}
 use Rattle.store.proofs.edit_plans.plan_deallocate.Tie as tie
 
-add-i : tie.Need-add-i
-add-i c = search needs
-
-add-last : tie.Need-add-last
-add-last c = search needs
-
-mul-save-words : tie.Need-mul-save-words
-mul-save-words c = search needs
-
-sub-save-words : tie.Need-sub-save-words
-sub-save-words c = search needs
-
-part-save-words-start : tie.Need-part-save-words-start
-part-save-words-start c = search needs
-
-part-save-words-end : tie.Need-part-save-words-end
-part-save-words-end c = search needs
-
-save-words-requires : tie.Need-save-words-requires
-save-words-requires c κs = search needs
-
-give-back-range-requires : tie.Need-give-back-range-requires
-give-back-range-requires c κs = search needs
-
 own-edges-requires : tie.Need-own-edges-requires
 own-edges-requires c κs =
     let b = c .before .before .before .before .before .before .before in
@@ -50,15 +26,6 @@ undo-requires c κs =
         rw (o .own-edges .kept .1 .1 .0, b .give-back-range .kept .1 .1 .0) (saved-pool _ (a .at + a .first) (a .n) _ (k .save-words .ensures) _ (s .pre .0 .pool)),
       ),
     )
-
-same-length : tie.Need-same-length
-same-length c = search needs
-
-same-length-2 : tie.Need-same-length-2
-same-length-2 c = search needs
-
-same-length-3 : tie.Need-same-length-3
-same-length-3 c = search needs
 
 returns : tie.Need-returns
 returns c =
@@ -90,15 +57,6 @@ settle-requires c κs =
       ),
     )
 
-same-length-4 : tie.Need-same-length-4
-same-length-4 c = search needs
-
-same-length-5 : tie.Need-same-length-5
-same-length-5 c = search needs
-
-same-length-6 : tie.Need-same-length-6
-same-length-6 c = search needs
-
 returns-2 : tie.Need-returns-2
 returns-2 c =
     let u = c .before .before .before .before in
@@ -119,22 +77,7 @@ pub plan-deallocate-spec : {M : Type 1} → statement M
 plan-deallocate-spec =
     tie.close
     (tie.spec
-    add-i
-    add-last
-    mul-save-words
-    sub-save-words
-    part-save-words-start
-    part-save-words-end
-    save-words-requires
-    give-back-range-requires
-    own-edges-requires
-    undo-requires
-    same-length
-    same-length-2
-    same-length-3
-    returns
-    settle-requires
-    same-length-4
-    same-length-5
-    same-length-6
-    returns-2)
+    (λ c. search needs) (λ c. search needs) (λ c. search needs) (λ c. search needs) (λ c. search needs)
+    (λ c. search needs) (λ c κs. search needs) (λ c κs. search needs) own-edges-requires undo-requires
+    (λ c. search needs) (λ c. search needs) (λ c. search needs) returns
+    settle-requires (λ c. search needs) (λ c. search needs) (λ c. search needs) returns-2)

@@ -6,24 +6,9 @@ use borrow.Author.Needs.{needs}
 use Rattle.store.proofs.ranges.give_back_slot.Statement.{statement}
 use Rattle.store.proofs.ranges.give_back_slot.Tie as tie
 
-slot-whole-requires : tie.Need-slot-whole-requires
-slot-whole-requires c κs = search needs
-
 returns : tie.Need-returns
 unfolding giveBack
 returns c = rw (← c .before .slot-whole .ensures, not-true (c .before .slot-whole .result) (c .if1 .taken)) (record { words-are = refl; counted = c .before .before .before .before .pre .0 })
-
-add-set-word : tie.Need-add-set-word
-add-set-word c = search needs
-
-set-word-requires : tie.Need-set-word-requires
-set-word-requires c κs = search needs
-
-same-length : tie.Need-same-length
-same-length c = search needs
-
-same-length-2 : tie.Need-same-length-2
-same-length-2 c = search needs
 
 returns-2 : tie.Need-returns-2
 unfolding giveBack
@@ -36,10 +21,5 @@ pub give-back-slot-spec : {M : Type 1} → statement M
 give-back-slot-spec =
     tie.close
     (tie.spec
-    slot-whole-requires
-    returns
-    add-set-word
-    set-word-requires
-    same-length
-    same-length-2
-    returns-2)
+    (λ c κs. search needs) returns
+    (λ c. search needs) (λ c κs. search needs) (λ c. search needs) (λ c. search needs) returns-2)

@@ -21,9 +21,6 @@ loop-holds c =
 add-w : tie.Need-add-w Inv-loop μ-loop
 add-w c = omega arith
 
-mul-w : tie.Need-mul-w Inv-loop μ-loop
-mul-w c = search needs
-
 slice-read-w : tie.Need-slice-read-w Inv-loop μ-loop
 slice-read-w c = omega arith
 
@@ -71,19 +68,6 @@ pub reserve-range-spec : {M : Type 1} → statement M
 reserve-range-spec =
     tie.close
     (tie.spec
-    Inv-loop
-    μ-loop
-    loop-holds
-    add-w
-    mul-w
-    slice-read-w
-    mul-w-2
-    add-w-2
-    add-set-word
-    set-word-requires
-    add-k
-    loop-less
-    loop-again
-    same-length
-    same-length-2
-    returns)
+    Inv-loop μ-loop loop-holds add-w (λ c. search needs) slice-read-w mul-w-2 add-w-2 add-set-word
+    set-word-requires add-k loop-less loop-again
+    same-length same-length-2 returns)

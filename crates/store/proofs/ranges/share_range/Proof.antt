@@ -21,9 +21,6 @@ loop-holds c =
 add-w : tie.Need-add-w Inv-loop μ-loop
 add-w c = omega arith
 
-mul-w : tie.Need-mul-w Inv-loop μ-loop
-mul-w c = search needs
-
 slice-read-w : tie.Need-slice-read-w Inv-loop μ-loop
 slice-read-w c = omega arith
 
@@ -34,9 +31,6 @@ mul-w-2 c =
 
 add-w-2 : tie.Need-add-w-2 Inv-loop μ-loop
 add-w-2 c = omega arith
-
-mul-w-3 : tie.Need-mul-w-3 Inv-loop μ-loop
-mul-w-3 c = search needs
 
 slice-read-w-2 : tie.Need-slice-read-w-2 Inv-loop μ-loop
 slice-read-w-2 c = omega arith
@@ -80,22 +74,6 @@ pub share-range-spec : {M : Type 1} → statement M
 share-range-spec =
     tie.close
     (tie.spec
-    Inv-loop
-    μ-loop
-    loop-holds
-    add-w
-    mul-w
-    slice-read-w
-    mul-w-2
-    add-w-2
-    mul-w-3
-    slice-read-w-2
-    add-w-3
-    add-set-word
-    set-word-requires
-    add-k
-    loop-less
-    loop-again
-    same-length
-    same-length-2
-    returns)
+    Inv-loop μ-loop loop-holds add-w (λ c. search needs) slice-read-w mul-w-2 add-w-2 (λ c. search needs)
+    slice-read-w-2 add-w-3 add-set-word set-word-requires add-k loop-less loop-again
+    same-length same-length-2 returns)

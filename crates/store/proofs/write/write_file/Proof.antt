@@ -49,34 +49,11 @@ write-range-requires c κs =
     let r = some-region (s .pre .known) (s .pre .fits) (t .if1 .left) in
     saved-slots r (k .slot-count .ensures) _ refl
 
-same-length : tie.Need-same-length
-same-length c = search needs
-
-same-length-2 : tie.Need-same-length-2
-same-length-2 c = search needs
-
-same-length-3 : tie.Need-same-length-3
-same-length-3 c = search needs
-
-same-length-4 : tie.Need-same-length-4
-same-length-4 c = search needs
-
-returns-2 : tie.Need-returns-2
-returns-2 c = search needs
-
 pub write-file-spec : {M : Type 1} → statement M
 write-file-spec =
     tie.close
     (tie.spec
     returns
-    add-slot-count
-    slot-count-requires
-    div-write-range
-    array-borrow-prefix-saved
-    slice-aggregate-write-range
-    write-range-requires
-    same-length
-    same-length-2
-    same-length-3
-    same-length-4
-    returns-2)
+    add-slot-count slot-count-requires div-write-range array-borrow-prefix-saved slice-aggregate-write-range
+    write-range-requires (λ c. search needs) (λ c. search needs) (λ c. search needs) (λ c. search needs)
+    (λ c. search needs))

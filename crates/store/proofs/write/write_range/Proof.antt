@@ -19,15 +19,6 @@ plan-write-requires c κs =
     let s = c .before .before .before .before .before .before .before .before .before .before in
     (s .pre .region .known .counted, (slots-inside (s .pre), refl))
 
-same-length : tie.Need-same-length
-same-length c = search needs
-
-same-length-2 : tie.Need-same-length-2
-same-length-2 c = search needs
-
-same-length-3 : tie.Need-same-length-3
-same-length-3 c = search needs
-
 returns : tie.Need-returns
 returns c =
     let k = c .before .before .before .before .before .before .before in
@@ -38,12 +29,6 @@ mul-finish : tie.Need-mul-finish
 mul-finish c =
     let s = c .before .before .before .before .before .before .before .before .before .before .before .before .before .before .before .before .before .before .before .before .before in
     omega (arith, slots-inside (s .pre))
-
-sub-finish : tie.Need-sub-finish
-sub-finish c = search needs
-
-part-finish-start : tie.Need-part-finish-start
-part-finish-start c = search needs
 
 part-finish-end : tie.Need-part-finish-end
 part-finish-end c =
@@ -58,21 +43,6 @@ finish-requires c κs =
     let s = k .before .before .before .before .before .before .before .before .before .before .before in
     (slots-touched (s .pre) (k .plan-write .kept .1 .0) (k .plan-write .ensures) (t .if1 .left), (file-inside (s .pre), omega (arith, region-room (s .pre .region) .end-most)))
 
-same-length-4 : tie.Need-same-length-4
-same-length-4 c = search needs
-
-same-length-5 : tie.Need-same-length-5
-same-length-5 c = search needs
-
-same-length-6 : tie.Need-same-length-6
-same-length-6 c = search needs
-
-same-length-7 : tie.Need-same-length-7
-same-length-7 c = search needs
-
-same-length-8 : tie.Need-same-length-8
-same-length-8 c = search needs
-
 returns-2 : tie.Need-returns-2
 returns-2 c =
     let d = c .before .before .before .before in
@@ -85,22 +55,6 @@ pub write-range-spec : {M : Type 1} → statement M
 write-range-spec =
     tie.close
     (tie.spec
-    mul-i
-    add-i
-    add-end
-    plan-write-requires
-    same-length
-    same-length-2
-    same-length-3
-    returns
-    mul-finish
-    sub-finish
-    part-finish-start
-    part-finish-end
-    finish-requires
-    same-length-4
-    same-length-5
-    same-length-6
-    same-length-7
-    same-length-8
-    returns-2)
+    mul-i add-i add-end plan-write-requires (λ c. search needs) (λ c. search needs) (λ c. search needs) returns
+    mul-finish (λ c. search needs) (λ c. search needs) part-finish-end finish-requires (λ c. search needs)
+    (λ c. search needs) (λ c. search needs) (λ c. search needs) (λ c. search needs) returns-2)

@@ -22,10 +22,10 @@ use Rattle.tables.specs.Tables.{Shaped, TableTrue}
 use Rattle.store.specs.EditPromises.{EditKnown, EditPromise, CopyKnown, CloneKnown}
 use Rattle.compound.specs.declared.answer.Handle.{Handle}
 use Rattle.compound.specs.declared.answer.Answer.{Answer}
-use Rattle.compound.specs.declared.operation.CloneArgs.{CloneArgs}
-use Rattle.compound.specs.declared.operation.CopyArgs.{CopyArgs}
-use Rattle.compound.specs.declared.operation.Operation.{Operation}
-use Rattle.compound.specs.Decoded.{meaning}
+use Rattle.wire.specs.declared.operation.CloneArgs.{CloneArgs}
+use Rattle.wire.specs.declared.operation.CopyArgs.{CopyArgs}
+use Rattle.wire.specs.declared.operation.Operation.{Operation}
+use Rattle.wire.specs.Decoded.{meaning}
 use Rattle.compound.specs.Runner.{fileIn, Done, Bare, Answered}
 use Rattle.compound.proofs.RunLaws.{edit-failed, edit-full, edit-done, failed-answer, plain-answer, body-answer}
 

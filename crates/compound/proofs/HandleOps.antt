@@ -24,9 +24,9 @@ use Rattle.rules.proofs.GeometryLaws.{good, block-pos}
 use Rattle.rules.proofs.SoundLaws.{sound-facts}
 use Rattle.compound.specs.declared.answer.Handle.{Handle}
 use Rattle.compound.specs.declared.answer.Answer.{Answer}
-use Rattle.compound.specs.declared.operation.Operation.{Operation}
+use Rattle.wire.specs.declared.operation.Operation.{Operation}
 use Rattle.compound.specs.declared.run.Progress.{Progress}
-use Rattle.compound.specs.Decoded.{meaning}
+use Rattle.wire.specs.Decoded.{meaning}
 use Rattle.compound.specs.Runner.{fileIn, stateOf, Known, Done, Bare, Answered, eventAt, Turned}
 use Rattle.compound.proofs.RunLaws.{perform-failed, perform-done, perform-item, bare-written, body-answer}
 

@@ -1,4 +1,4 @@
--- The ways out of the small functions: tests on numbers that do not wrap, stateids, fields written one after the other.
+-- The ways out of the small functions: tests on numbers that do not wrap, stateids.
 use Prim.Native.Nat.{ℕ, suc, _+_, _-_, _%_, _^_, _≤_, _<_}
 use mathlib.Core.Path.{_≡_, refl, sym, ap, _∙_}
 use mathlib.Core.Bool.{Bool, true, false, _&&_, not}
@@ -12,7 +12,6 @@ use lib.Seq.{drop-cons}
 use lib.Dec.{leb, ltb, eqb}
 use Rattle.xdr.specs.Bytes.{Written}
 use Rattle.xdr.specs.Encode.{u32}
-use Rattle.xdr.proofs.BytesLaws.{length-splice, written-then}
 use Rattle.rules.specs.Store.{Geometry, Store}
 use Rattle.rules.specs.Operation.{bad}
 use Rattle.rules.specs.Run.{overlap, uneven, sameBytes, zeroStateid, readStateid, failed}
@@ -142,19 +141,6 @@ both-false b e h = rw (sym e ∙ h)
 
 pub both-second : {a b t r : Bool} → t ≡ a → t ≡ true → r ≡ b → r ≡ a && b
 both-second e h q = rw (sym e ∙ h) q
-
--- ---- fields written one after the other
-
-pub written-sized : {bs : List ℕ} {n m at q : ℕ} {x y : List ℕ} → n ≡ m → Written bs n at x y q → Written bs m at x y q
-written-sized {at = at} e w = record { bytes = w .bytes; size = w .size ∙ e; place = w .place ∙ ap (λ (k : ℕ). at + k) e }
-
--- room for both: the second is told its own
-pub written-more : {a b : List ℕ} {n m at p q : ℕ} {x y z : List ℕ} → at + (n + m) ≤ length x → Written a n at x y p
-    → (p + m ≤ length y → Written b m p y z q) → Written (a ++ b) (n + m) at x z q
-written-more {a} {b} {n} {m} {at} {p} {q} {x} {y} {z} h f g =
-    let s : length a ≡ n = f .size in
-    let l : length y ≡ length x = ap length (f .bytes) ∙ length-splice x at a (omega arith) in
-    written-then (omega arith) f (g (omega (arith, f .place)))
 
 -- ---- what does not decode
 

@@ -3,8 +3,8 @@ pub mod LeafLaws
 pub mod HandleOps
 pub mod EditOps
 pub mod CloneOps
-pub mod RequestLaws
 pub mod SpliceLaws
+pub mod PieceLaws
 pub mod ReadOps
 pub mod LoopLaws
 pub mod ServeLaws

@@ -16,15 +16,16 @@ use Rattle.xdr.proofs.EncodeLaws.{length-u32, length-bool}
 use Rattle.rules.specs.Lists.{first}
 use Rattle.rules.specs.Store.{Geometry, Store, sizeOf, bytesFrom, sound}
 use Rattle.rules.specs.Read.{granted, readPieces, seekPlace}
-use Rattle.rules.specs.Operation.{pieceBytes, NXIO, NOFILEHANDLE, BAD-STATEID, UNION-NOTSUPP, Op, READ, READ-PLUS, SEEK, opNumber, readReply, readPlusReply, seekReply}
+use Rattle.rules.specs.Operation.{pieceBytes, NXIO, NOFILEHANDLE, BAD-STATEID, UNION-NOTSUPP, Op, READ, READ-PLUS, SEEK, opNumber, readReply, readPlusReply, seekResult, seekReply}
 use Rattle.rules.specs.Run.{State, noFile, fileOf, readStateid, errors, effect, body, perform, config, does, countedAfter}
 use Rattle.tables.specs.Tables.{TableTrue, Shaped}
-use Rattle.store.specs.Readable.{Placed, Readable, PiecesFit, PiecesPut, piecesTo, piecesSize}
+use Rattle.store.specs.Readable.{Placed, Readable}
+use Rattle.compound.specs.Pieces.{PiecesFit, PiecesPut, piecesTo, piecesSize}
 use Rattle.rules.proofs.SoundStore.{Sound}
 use Rattle.rules.proofs.GeometryLaws.{Good, good, lengths}
 use Rattle.rules.proofs.SoundLaws.{sound-facts}
 use Rattle.rules.proofs.BodyLaws.{read-plus-most}
-use Rattle.store.proofs.ScanLaws.{length-pieces}
+use Rattle.compound.proofs.PieceLaws.{length-pieces}
 use Rattle.compound.specs.declared.answer.Handle.{Handle}
 use Rattle.compound.specs.declared.answer.Answer.{Answer}
 use Rattle.compound.specs.Runner.{fileIn, Known, Shows, Done, Bare, Answered}
@@ -96,10 +97,10 @@ module _ {g : Geometry} {st : Store} {f at : ℕ} {reply : List ℕ} (w : Shows 
   bytes-fit off n a b c v = (shown-readable (omega (arith, b, c)), omega (arith, a, b, v .place, written-long v (omega (arith, w .room)), w .room))
 
   -- SEEK: eof and the place
-  pub seek-written : (off what : ℕ) {k p q : ℕ} {y z : List ℕ} → k ≡ seekPlace g st f (eqb what 1) off → Written (bool (eqb k (sizeOf st f))) 4 at reply y p
-      → Written (u64 k) 8 p y z q → Written (seekReply g st f off what) (length (seekReply g st f off what)) at reply z q
+  pub seek-written : (off what : ℕ) {k n q : ℕ} {z : List ℕ} → k ≡ seekPlace g st f (eqb what 1) off
+      → Written (seekResult .write (eqb k (sizeOf st f), k)) n at reply z q → Written (seekReply g st f off what) (length (seekReply g st f off what)) at reply z q
   unfolding seekReply
-  seek-written off what e v u = written-as (rw e) (written-then (omega (arith, w .room)) v u)
+  seek-written off what e v = written-as (rw e) v
 
   -- READ_PLUS: eof is written first
   module _ (off n : ℕ) {k end p : ℕ} {bs x : List ℕ} (a : k ≡ granted n) (b : end ≡ min (off + k) (sizeOf st f)) (v : Written bs 4 at reply x p) where

@@ -5,11 +5,10 @@ use mathlib.Core.Bool.{true}
 use mathlib.Core.Option.{Option, none, some}
 use mathlib.Core.List.{List, _++_}
 use lib.ListN.{length}
-use Rattle.xdr.specs.declared.bytes.Span.{Span}
-use Rattle.xdr.specs.Bytes.{partOf, Written}
+use Rattle.xdr.specs.Bytes.{Written}
 use Rattle.xdr.specs.Encode.{u32, concatMap}
 use Rattle.rules.specs.Store.{Geometry, Store, sound}
-use Rattle.rules.specs.Operation.{op, bad, itemAt, Header}
+use Rattle.rules.specs.Operation.{op, bad, itemAt}
 use Rattle.rules.specs.Run.{State, Event, failed, perform, config}
 use Rattle.rules.specs.Calls.{resultBytes, placeAfter, lastPlace, lastStatus, lastStore, Call, Outcome}
 use Rattle.tables.specs.Lent.{Held}
@@ -135,7 +134,3 @@ call g v s reply = record { config = config g (v .entry .now); request = s .entr
 
 abbrev pub outcome : Served → Held → Store → Outcome Store
 outcome r reply st = record { number = r .number; read = r .read; written = r .written; reply = reply .exit .now; store = st }
-
--- the header that the code's reader found in request s
-abbrev pub headerOf : List ℕ → Span → ℕ → ℕ → Header
-headerOf s d minor ops = record { tag = partOf s d; minor = minor; ops = ops }

@@ -1,10 +1,8 @@
 // What an operation answers: the handles after it, its status, and the place after its result in the reply.
 ghost use Prim.Native.Nat.{_+_, _≤_};
 ghost use lib.ListN.{length};
-ghost use mathlib.Core.List.{_++_};
-ghost use Rattle.xdr.specs.Bytes.{Written};
-ghost use Rattle.xdr.specs.Encode.{u32};
 ghost use Rattle.compound.specs.Runner.{Bare};
+use wire::put_result;
 
 pub enum Handle {
     Nothing,
@@ -40,15 +38,6 @@ impl Answer {
     pub const TOO_MANY_OPS: u32 = 10070;
 
     pub const UNION_NOTSUPP: u32 = 10090;
-}
-
-// The first two fields of a result: operation number and status.
-pub fn put_result(reply: &mut [u8], at: usize, number: u32, status: u32) -> usize
-    requires { ⌜ at + 8 ≤ length (now reply) ⌝ }
-    ensures { λ r. ⌜ Written (u32 number ++ u32 status) 8 at (now (reply .entry)) (now (reply .exit)) r ⌝ }
-{
-    let next = xdr::put_u32(reply, at, number);
-    xdr::put_u32(reply, next, status)
 }
 
 // A result that has no body, of an operation that leaves the handles.

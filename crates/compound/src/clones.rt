@@ -12,23 +12,23 @@ ghost use Rattle.rules.specs.Store.{goodGeometry, Store};
 ghost use Rattle.rules.specs.Run.{State, zeroStateid, readStateid, errors, perform, overlap, uneven, config};
 ghost use Rattle.tables.specs.Lent.{geometryOf, after, before, tables};
 ghost use Rattle.store.specs.EditPromises.{EditKnown};
-ghost use Rattle.compound.specs.Decoded.{meaning};
+ghost use Rattle.wire.specs.Decoded.{meaning};
 ghost use Rattle.compound.specs.Runner.{stateOf, Runs, Done, Answered};
 use crate::answer::Answer;
 use crate::answer::Handle;
-use crate::answer::put_result;
 use crate::answer::without_body;
-use crate::operation::CloneArgs;
-use crate::operation::CopyArgs;
-use crate::operation::Operation;
 use crate::region::past_size;
 use crate::region::too_big;
 use crate::region::too_far;
-use crate::result::put_copied;
 use crate::stateid::read_stateid;
 use crate::stateid::zero_stateid;
 use store::Source;
 use tables::Geometry;
+use wire::CloneArgs;
+use wire::CopyArgs;
+use wire::Operation;
+use wire::put_copied;
+use wire::put_result;
 
 // How many bytes are meant: a count of 0 means to the source's end.
 fn source_count(size: u64, from: u64, n: u64) -> u64

@@ -10,20 +10,20 @@ ghost use Rattle.rules.specs.Store.{goodGeometry};
 ghost use Rattle.rules.specs.Run.{State, noFile, errors, perform, config};
 ghost use Rattle.tables.specs.Lent.{geometryOf, after, before, tables};
 ghost use Rattle.store.specs.EditPromises.{EditKnown};
-ghost use Rattle.compound.specs.Decoded.{meaning};
+ghost use Rattle.wire.specs.Decoded.{meaning};
 ghost use Rattle.compound.specs.Runner.{stateOf, Runs, Done, Answered};
 use crate::answer::Answer;
 use crate::answer::Handle;
-use crate::answer::put_result;
 use crate::answer::without_body;
-use crate::operation::Operation;
-use crate::operation::RegionArgs;
-use crate::operation::WriteArgs;
 use crate::region::too_big;
 use crate::region::too_far;
-use crate::result::put_written;
 use crate::stateid::zero_stateid;
 use tables::Geometry;
+use wire::Operation;
+use wire::RegionArgs;
+use wire::WriteArgs;
+use wire::put_result;
+use wire::put_written;
 
 // The first error of a WRITE where a file is current, NOSPC aside; 0 if there is none.
 fn write_error(g: Geometry, s: &[u8], a: WriteArgs) -> u32

@@ -1,13 +1,11 @@
-// The compound runner: operations decoded, run and answered. The rules stand in specs/.
+// The compound runner: operations run and answered. The rules stand in specs/.
 mod answer;
 mod clones;
-mod decode;
 mod edits;
 mod handles;
-mod operation;
+mod pieces;
 mod reads;
 mod region;
-mod result;
 mod run;
 mod serving;
 mod stateid;

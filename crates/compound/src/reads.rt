@@ -14,16 +14,18 @@ ghost use Rattle.rules.specs.Read.{granted};
 ghost use Rattle.rules.specs.Operation.{readReply, readPlusReply, seekReply};
 ghost use Rattle.rules.specs.Run.{State, errors, perform, config};
 ghost use Rattle.tables.specs.Tables.{TableTrue};
-ghost use Rattle.compound.specs.Decoded.{meaning};
+ghost use Rattle.wire.specs.Decoded.{meaning};
 ghost use Rattle.compound.specs.Runner.{stateOf, Known, Shows, Answered};
 use crate::answer::Answer;
 use crate::answer::Handle;
-use crate::answer::put_result;
 use crate::answer::without_body;
-use crate::operation::Operation;
-use crate::operation::ReadArgs;
+use crate::pieces::put_file_bytes;
+use crate::pieces::put_pieces;
 use crate::stateid::read_stateid;
 use tables::Geometry;
+use wire::Operation;
+use wire::ReadArgs;
+use wire::put_result;
 
 // The bytes granted of n asked for.
 fn grant(n: u32) -> u64
@@ -90,7 +92,7 @@ fn put_read(
     if m == 0 {
         return xdr::put_u32(reply, data, 0);
     }
-    store::put_file_bytes(g, words, mem, f, off as usize, m as usize, reply, data)
+    put_file_bytes(g, words, mem, f, off as usize, m as usize, reply, data)
 }
 
 // READ_PLUS's body: eof, the number of pieces, the pieces. They are counted as they are written.
@@ -112,7 +114,7 @@ fn put_read_plus(
     let size = sizes[f];
     let number = xdr::put_bool(reply, at, reaches(size, off, grant(n)));
     let end = read_end(size, off, grant(n)) as usize;
-    let p = store::put_pieces(g, words, mem, f, off as usize, end, reply, number + 4);
+    let p = put_pieces(g, words, mem, f, off as usize, end, reply, number + 4);
     xdr::put_u32(reply, number, p.count);
     p.next
 }
@@ -135,8 +137,7 @@ fn put_seek(
 {
     let size = sizes[f];
     let p = store::seek_file(g, words, size, f, what == 1, off);
-    let place = xdr::put_bool(reply, at, p == size);
-    xdr::put_u64(reply, place, p)
+    wire::put_sought(reply, at, p == size, p)
 }
 
 pub fn read(

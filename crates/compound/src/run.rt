@@ -8,19 +8,20 @@ ghost use Rattle.rules.specs.Operation.{bad, items};
 ghost use Rattle.rules.specs.Run.{failed, perform, reached, config};
 ghost use Rattle.rules.specs.Calls.{fresh};
 ghost use Rattle.tables.specs.Tables.{TableTrue};
-ghost use Rattle.compound.specs.Decoded.{meaning};
+ghost use Rattle.wire.specs.Decoded.{meaning};
 ghost use Rattle.compound.specs.Runner.{stateOf, Runs, Answered, eventAt, Turned, RunsAll, RanAll};
 use crate::answer::Answer;
 use crate::answer::Handle;
-use crate::answer::put_result;
 use crate::clones;
-use crate::decode::item;
 use crate::edits;
 use crate::handles;
-use crate::operation::Item;
-use crate::operation::Operation;
 use crate::reads;
 use tables::Geometry;
+use wire::Header;
+use wire::Item;
+use wire::Operation;
+use wire::item;
+use wire::put_result;
 use xdr::Cursor;
 
 // Where a run stands: the last status, the operations reached, the next byte to read and to write, and the handles.
@@ -225,7 +226,7 @@ fn turn(
     }
 }
 
-// At most `ops` operations from place `read` of the request on; their results go to place `out` of the reply.
+// The operations behind header h; their results go to place `out` of the reply.
 pub fn run(
     g: Geometry,
     sizes: &mut [u64],
@@ -234,24 +235,23 @@ pub fn run(
     counts: &mut [u32],
     v: &[u8],
     s: &[u8],
-    ops: u32,
-    read: usize,
+    h: Header,
     out: usize,
     reply: &mut [u8],
 ) -> Progress
-    requires { ⌜ RunsAll (geometryOf g) (now v) (now s) (tables sizes words mem) (now counts) ops (now reply) out ⌝ }
-    ensures { λ r. ⌜ RanAll (reached (config (geometryOf g) (now (v .entry))) (fresh (before sizes words mem)) (items (now (s .entry)) ops read))
-        (before sizes words mem) read out r (after sizes words mem) (now (reply .entry)) (now (reply .exit)) ⌝ }
+    requires { ⌜ RunsAll (geometryOf g) (now v) (now s) (tables sizes words mem) (now counts) (h .ops) (now reply) out ⌝ }
+    ensures { λ r. ⌜ RanAll (reached (config (geometryOf g) (now (v .entry))) (fresh (before sizes words mem)) (items (now (s .entry)) (h .ops) (h .next .at)))
+        (before sizes words mem) (h .next .at) out r (after sizes words mem) (now (reply .entry)) (now (reply .exit)) ⌝ }
 {
     let mut r = Progress {
         status: 0,
         count: 0,
-        read,
+        read: h.next.at,
         out,
         current: Handle::Nothing,
         saved: Handle::Nothing,
     };
-    while r.count < ops {
+    while r.count < h.ops {
         r = turn(g, sizes, words, mem, counts, v, s, r, reply);
         if r.status != 0 {
             return r;

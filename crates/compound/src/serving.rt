@@ -14,15 +14,15 @@ ghost use Rattle.rules.specs.Calls.{compound, replyHead, Gives, served, Contrac
 ghost use Rattle.rules.specs.Run.{config};
 ghost use Rattle.tables.specs.Tables.{Shaped};
 ghost use Rattle.tables.specs.Survey.{TableFits, TableReady};
-ghost use Rattle.compound.specs.Runner.{Serves, headerOf, call, outcome};
+ghost use Rattle.wire.specs.Decoded.{headerOf};
+ghost use Rattle.compound.specs.Runner.{Serves, call, outcome};
 use crate::answer::Answer;
-use crate::decode::HeaderRead;
-use crate::decode::header;
-use crate::operation::Operation;
 use crate::run::run;
 use tables::Geometry;
-use xdr::Cursor;
-use xdr::Span;
+use wire::Header;
+use wire::HeaderRead;
+use wire::Operation;
+use wire::header;
 
 // A refusal with zero counts, or 0 with the bytes read and written.
 pub struct Served {
@@ -85,29 +85,27 @@ fn serve_operations(
     counts: &mut [u32],
     v: &[u8],
     s: &[u8],
-    d: Span,
-    minor: u32,
-    ops: u32,
-    c: Cursor,
+    h: Header,
     reply: &mut [u8],
 ) -> Served
-    requires { ⌜ Serves (geometryOf g) (now v) (now s) (tables sizes words mem) (now counts) (now reply) × (length (partOf (now s) d) ≤ 1024) ⌝ }
-    ensures { λ r. ⌜ Gives (served (now (reply .entry)) (before sizes words mem) (headerOf (now (s .entry)) d minor ops) (c .at)
-        (compound (config (geometryOf g) (now (v .entry))) (before sizes words mem) (now (s .entry)) (headerOf (now (s .entry)) d minor ops) (c .at)))
+    requires { ⌜ Serves (geometryOf g) (now v) (now s) (tables sizes words mem) (now counts) (now reply) × (length (partOf (now s) (h .tag)) ≤ 1024) ⌝ }
+    ensures { λ r. ⌜ Gives (served (now (reply .entry)) (before sizes words mem) (headerOf (now (s .entry)) h) (h .next .at)
+        (compound (config (geometryOf g) (now (v .entry))) (before sizes words mem) (now (s .entry)) (headerOf (now (s .entry)) h) (h .next .at)))
         (outcome r reply (after sizes words mem)) ⌝ }
 {
+    let d = h.tag;
     let tag = xdr::part(s, d);
-    let e = header_status(minor, ops);
+    let e = header_status(h.minor, h.ops);
     if e != 0 {
         let written = put_head(reply, e, tag, 0);
         return Served {
             number: 0,
-            read: c.at,
+            read: h.next.at,
             written,
         };
     }
     let out = 12 + (tag.len() + xdr::padding(tag.len()));
-    let r = run(g, sizes, words, mem, counts, v, s, ops, c.at, out, reply);
+    let r = run(g, sizes, words, mem, counts, v, s, h, out, reply);
     put_head(reply, r.status, tag, r.count);
     Served {
         number: 0,
@@ -140,10 +138,10 @@ fn serve_counted(
     if reply.len() < Served::MIN_REPLY {
         return Served::refused(5);
     }
-    let HeaderRead::Found(d, minor, ops, c) = header(s) else {
+    let HeaderRead::Found(h) = header(s) else {
         return Served::refused(6);
     };
-    serve_operations(g, sizes, words, mem, counts, v, s, d, minor, ops, c, reply)
+    serve_operations(g, sizes, words, mem, counts, v, s, h, reply)
 }
 
 // The same in a table of any length that has a number for each block.

@@ -92,7 +92,7 @@ module _ (g : Geometry) (st : Store) (f i n w : ℕ) (h : Readable g (st .words)
 
 -- ---- parts that are lent to be read into
 
-part-length : (at n : ℕ) (xs : List ℕ) → at + n ≤ length xs → length (P.midOf at (at + n - at) xs) ≡ n
+pub part-length : (at n : ℕ) (xs : List ℕ) → at + n ≤ length xs → length (P.midOf at (at + n - at) xs) ≡ n
 part-length at n xs h = P.mid-len at (at + n) xs h ∙ omega arith
 
 -- the share of a slot: r of the bytes xs, from `at` on
@@ -111,9 +111,3 @@ read-on v xs ys off at n h e d =
     let len : length (take at xs ++ ys) ≡ at + n = omega (arith, length-append (take at xs) ys, length-take-le at xs (omega arith), ap length ys-are, length-tab v n (off + at)) in
     ap (take (at + n)) (sym (append-assoc (take at xs) ys (P.postOf at (at + n - at) xs))) ∙ take-at (take at xs ++ ys) (P.postOf at (at + n - at) xs) (at + n) len
     ∙ rw (e, ys-are) (sym (tab-append v at n off))
-
--- n values read into a lent part
-pub read-written : (v : ℕ → ℕ) (xs ys : List ℕ) (i at n : ℕ) → at + n ≤ length xs → ys ≡ tabulate v i (length (P.midOf at (at + n - at) xs))
-    → Written (tabulate v i n) n at xs (P.putMid at (at + n - at) xs ys) (at + n)
-read-written v xs ys i at n h e =
-    record { bytes = put-splice at n xs ys (tabulate v i n) (e ∙ ap (tabulate v i) (part-length at n xs h)) (length-tab v n i); size = length-tab v n i; place = refl }

@@ -1,14 +1,11 @@
 -- What the functions that read a file ask of the lent tables, and what they leave.
-use Prim.Native.Nat.{ℕ, suc, _+_, _*_, _/_, _≤_, _<_}
+use Prim.Native.Nat.{ℕ, _+_, _*_, _/_, _≤_, _<_}
 use mathlib.Core.Path.{_≡_}
-use mathlib.Core.Bool.{Bool, true, cond, not}
-use mathlib.Core.List.{List, _∷_, []}
+use mathlib.Core.Bool.{Bool, true, not}
+use mathlib.Core.List.{List}
 use lib.ListN.{length}
-use Rattle.xdr.specs.Encode.{opaqueSize, concatMap}
-use Rattle.xdr.specs.Bytes.{Written}
-use Rattle.rules.specs.Store.{Geometry, goodGeometry, Store, isHole, wordOf}
-use Rattle.rules.specs.Read.{Piece, pieces}
-use Rattle.rules.specs.Operation.{pieceBytes}
+use Rattle.rules.specs.Store.{Geometry, goodGeometry, isHole, wordOf}
+use Rattle.rules.specs.Read.{Piece}
 use Rattle.rules.proofs.PlanLaws.{InPool}
 
 -- file f has a slot word for each place below `end`
@@ -48,32 +45,3 @@ pub record PieceEnds (g : Geometry) (ws : List ℕ) (f i end p : ℕ) : Type 0 w
 -- n bytes from place i on, as a piece
 abbrev pub pieceAt : Geometry → List ℕ → ℕ → ℕ → ℕ → Piece
 pieceAt g ws f i n = record { hole = holeIn g ws f i; start = i; size = n }
-
--- how many bytes a piece is as it is answered
-abbrev pub pieceSize : Piece → ℕ
-pieceSize p = cond (p .hole) (4 + (8 + 8)) (4 + (8 + opaqueSize (p .size)))
-
-abbrev pub piecesSize : List Piece → ℕ
-piecesSize [] = 0
-piecesSize (p ∷ ps) = pieceSize p + piecesSize ps
-
--- a piece of at least one byte, and room for it at place `at` of `len` bytes
-pub record PieceFits (g : Geometry) (ws m : List ℕ) (f i n at len : ℕ) : Type 0 where
-  pub readable : Readable g ws m f (i + n)
-  pub some : 1 ≤ n
-  pub room : at + pieceSize (pieceAt g ws f i n) ≤ len
-
--- the pieces from `off` up to `end`
-abbrev pub piecesTo : Geometry → Store → ℕ → ℕ → ℕ → List Piece
-piecesTo g st f off end = pieces g st f end (suc (g .S)) off
-
--- room for them, by a store with any sizes: they depend on the words alone
-pub record PiecesFit (g : Geometry) (ws m : List ℕ) (f off end at len : ℕ) : Type 0 where
-  pub readable : Readable g ws m f end
-  pub sizes : List ℕ
-  pub room : at + piecesSize (piecesTo g (record { sizes = sizes; words = ws; mem = m }) f off end) ≤ len
-
--- how many they are, and what their writer leaves
-pub record PiecesPut (g : Geometry) (st : Store) (f off end at : ℕ) (before after : List ℕ) (count next : ℕ) : Type 0 where
-  pub number : count ≡ length (piecesTo g st f off end)
-  pub written : Written (concatMap (pieceBytes g st f) (piecesTo g st f off end)) (piecesSize (piecesTo g st f off end)) at before after next

@@ -7,36 +7,12 @@ use borrow.Author.Needs.{needs}
 use Rattle.compound.proofs.clones.clone.Statement.{statement}
 use Rattle.compound.proofs.clones.clone.Tie as tie
 
-enum-known-saved : tie.Need-enum-known-saved
-enum-known-saved c = search needs
-
-enum-told : tie.Need-enum-told
-enum-told c = search needs
-
-without-body-requires : tie.Need-without-body-requires
-without-body-requires c κs = search needs
-
-same-length : tie.Need-same-length
-same-length c = search needs
-
 returns : tie.Need-returns
 returns c =
     let k = c .before .before in
     let t = k .before .before in
     let s = t .before .before .before .before .before .before .before .before .before in
     pair-missing _ (clone-pairs (s .args .s .now) (s .args .a)) (s .pre .counted) (inl (ap fileIn (t .enum-told .given .1))) refl refl (k .without-body .ensures)
-
-enum-known-current : tie.Need-enum-known-current
-enum-known-current c = search needs
-
-enum-told-2 : tie.Need-enum-told-2
-enum-told-2 c = search needs
-
-without-body-requires-2 : tie.Need-without-body-requires-2
-without-body-requires-2 c κs = search needs
-
-same-length-2 : tie.Need-same-length-2
-same-length-2 c = search needs
 
 returns-2 : tie.Need-returns-2
 returns-2 c =
@@ -54,21 +30,6 @@ clone-status-requires c κs =
     let s = e .before .before .before .before .before .before .before .before .before in
     (edit-known (s .pre) _ (ap fileIn (f .current .given .1)), s .pre .known .saved _ (ap fileIn (e .saved .given .1)))
 
-without-body-requires-3 : tie.Need-without-body-requires-3
-without-body-requires-3 c κs = search needs
-
-same-length-3 : tie.Need-same-length-3
-same-length-3 c = search needs
-
-same-length-4 : tie.Need-same-length-4
-same-length-4 c = search needs
-
-same-length-5 : tie.Need-same-length-5
-same-length-5 c = search needs
-
-same-length-6 : tie.Need-same-length-6
-same-length-6 c = search needs
-
 returns-3 : tie.Need-returns-3
 returns-3 c =
     let b = c .before .before in
@@ -82,20 +43,7 @@ pub clone-spec : {M : Type 1} → statement M
 clone-spec =
     tie.close
     (tie.spec
-    enum-known-saved
-    enum-told
-    without-body-requires
-    same-length
-    returns
-    enum-known-current
-    enum-told-2
-    without-body-requires-2
-    same-length-2
-    returns-2
-    clone-status-requires
-    without-body-requires-3
-    same-length-3
-    same-length-4
-    same-length-5
-    same-length-6
-    returns-3)
+    (λ c. search needs) (λ c. search needs) (λ c κs. search needs) (λ c. search needs) returns
+    (λ c. search needs) (λ c. search needs) (λ c κs. search needs) (λ c. search needs) returns-2
+    clone-status-requires (λ c κs. search needs) (λ c. search needs) (λ c. search needs) (λ c. search needs)
+    (λ c. search needs) returns-3)

@@ -9,24 +9,12 @@ use borrow.Author.Needs.{needs}
 use Rattle.compound.proofs.clones.clone_error.Statement.{statement}
 use Rattle.compound.proofs.clones.clone_error.Tie as tie
 
-pair-stateids-requires : tie.Need-pair-stateids-requires
-pair-stateids-requires c κs = search needs
-
 returns : tie.Need-returns
 returns c =
     let k = c .before in
     let a = k .before .before .before .args in
     λ x saved current same. clone-first (geometryOf (a .g)) x saved current same (a .s .now) (a .a) refl
     (sym (k .pair-stateids .ensures) ∙ not-true _ (c .if1 .taken)) refl refl refl refl refl
-
-mul-past-size : tie.Need-mul-past-size
-mul-past-size c = search needs
-
-shared-slice-read-past-size : tie.Need-shared-slice-read-past-size
-shared-slice-read-past-size c = search needs
-
-past-size-requires : tie.Need-past-size-requires
-past-size-requires c κs = search needs
 
 returns-2 : tie.Need-returns-2
 returns-2 c =
@@ -36,18 +24,6 @@ returns-2 c =
     let a = k .before .before .before .args in
     λ x saved current same. clone-first (geometryOf (a .g)) x saved current same (a .s .now) (a .a) refl
     (sym (k .pair-stateids .ensures) ∙ not-false _ (t .if1 .left)) (sym (p .past-size .ensures) ∙ c .if2 .taken) refl refl refl refl
-
-mul-source-count : tie.Need-mul-source-count
-mul-source-count c = search needs
-
-shared-slice-read-source-count : tie.Need-shared-slice-read-source-count
-shared-slice-read-source-count c = search needs
-
-source-count-requires : tie.Need-source-count-requires
-source-count-requires c κs = search needs
-
-self-overlap-requires : tie.Need-self-overlap-requires
-self-overlap-requires c κs = search needs
 
 returns-3 : tie.Need-returns-3
 returns-3 c =
@@ -61,15 +37,6 @@ returns-3 c =
     λ x saved current same. clone-first (geometryOf (a .g)) x saved current same (a .s .now) (a .a) (n .source-count .ensures)
     (sym (k .pair-stateids .ensures) ∙ not-false _ (t .if1 .left)) (sym (p .past-size .ensures) ∙ q .if2 .left) (sym (o .self-overlap .ensures) ∙ c .if3 .taken)
     refl refl refl
-
-mul-uneven-clone : tie.Need-mul-uneven-clone
-mul-uneven-clone c = search needs
-
-shared-slice-read-uneven-clone : tie.Need-shared-slice-read-uneven-clone
-shared-slice-read-uneven-clone c = search needs
-
-uneven-clone-requires : tie.Need-uneven-clone-requires
-uneven-clone-requires c κs = search needs
 
 returns-4 : tie.Need-returns-4
 returns-4 c =
@@ -85,9 +52,6 @@ returns-4 c =
     λ x saved current same. clone-first (geometryOf (a .g)) x saved current same (a .s .now) (a .a) (n .source-count .ensures)
     (sym (k .pair-stateids .ensures) ∙ not-false _ (t .if1 .left)) (sym (p .past-size .ensures) ∙ q .if2 .left) (sym (o .self-overlap .ensures) ∙ u .if3 .left)
     (sym (w .uneven-clone .ensures (x .store) (a .e) (ap (λ (l : List ℕ). getD l (a .e) 0) same)) ∙ c .if4 .taken) refl refl
-
-too-far-requires : tie.Need-too-far-requires
-too-far-requires c κs = search needs
 
 returns-5 : tie.Need-returns-5
 returns-5 c =
@@ -106,9 +70,6 @@ returns-5 c =
     (sym (k .pair-stateids .ensures) ∙ not-false _ (t .if1 .left)) (sym (p .past-size .ensures) ∙ q .if2 .left) (sym (o .self-overlap .ensures) ∙ u .if3 .left)
     (sym (w .uneven-clone .ensures (x .store) (a .e) (ap (λ (l : List ℕ). getD l (a .e) 0) same)) ∙ y .if4 .left)
     (sym (r .too-far .ensures) ∙ c .if5 .taken) refl
-
-too-big-requires : tie.Need-too-big-requires
-too-big-requires c κs = search needs
 
 returns-6 : tie.Need-returns-6
 returns-6 c =
@@ -154,23 +115,10 @@ pub clone-error-spec : {M : Type 1} → statement M
 clone-error-spec =
     tie.close
     (tie.spec
-    pair-stateids-requires
-    returns
-    mul-past-size
-    shared-slice-read-past-size
-    past-size-requires
-    returns-2
-    mul-source-count
-    shared-slice-read-source-count
-    source-count-requires
-    self-overlap-requires
-    returns-3
-    mul-uneven-clone
-    shared-slice-read-uneven-clone
-    uneven-clone-requires
-    returns-4
-    too-far-requires
-    returns-5
-    too-big-requires
-    returns-6
+    (λ c κs. search needs) returns
+    (λ c. search needs) (λ c. search needs) (λ c κs. search needs) returns-2
+    (λ c. search needs) (λ c. search needs) (λ c κs. search needs) (λ c κs. search needs) returns-3
+    (λ c. search needs) (λ c. search needs) (λ c κs. search needs) returns-4
+    (λ c κs. search needs) returns-5
+    (λ c κs. search needs) returns-6
     returns-7)

@@ -6,9 +6,6 @@ use borrow.Author.Needs.{needs}
 use Rattle.compound.proofs.clones.copy_error.Statement.{statement}
 use Rattle.compound.proofs.clones.copy_error.Tie as tie
 
-pair-stateids-requires : tie.Need-pair-stateids-requires
-pair-stateids-requires c κs = search needs
-
 returns : tie.Need-returns
 returns c =
     let k = c .before in
@@ -24,15 +21,6 @@ returns-2 c =
     λ x saved current same. copy-first (geometryOf (a .g)) x saved current same (a .s .now) (a .a) refl
     (sym (k .pair-stateids .ensures) ∙ not-false _ (t .if1 .left)) (eq-eqb _ _ (c .if2 .taken)) refl refl refl
 
-mul-past-size : tie.Need-mul-past-size
-mul-past-size c = search needs
-
-shared-slice-read-past-size : tie.Need-shared-slice-read-past-size
-shared-slice-read-past-size c = search needs
-
-past-size-requires : tie.Need-past-size-requires
-past-size-requires c κs = search needs
-
 returns-3 : tie.Need-returns-3
 returns-3 c =
     let p = c .before in
@@ -42,18 +30,6 @@ returns-3 c =
     let a = k .before .before .before .before .args in
     λ x saved current same. copy-first (geometryOf (a .g)) x saved current same (a .s .now) (a .a) refl
     (sym (k .pair-stateids .ensures) ∙ not-false _ (t .if1 .left)) (ne-eqb _ _ (u .if2 .left)) (sym (p .past-size .ensures) ∙ c .if3 .taken) refl refl
-
-mul-source-count : tie.Need-mul-source-count
-mul-source-count c = search needs
-
-shared-slice-read-source-count : tie.Need-shared-slice-read-source-count
-shared-slice-read-source-count c = search needs
-
-source-count-requires : tie.Need-source-count-requires
-source-count-requires c κs = search needs
-
-too-far-requires : tie.Need-too-far-requires
-too-far-requires c κs = search needs
 
 returns-4 : tie.Need-returns-4
 returns-4 c =
@@ -68,9 +44,6 @@ returns-4 c =
     λ x saved current same. copy-first (geometryOf (a .g)) x saved current same (a .s .now) (a .a) (n .source-count .ensures)
     (sym (k .pair-stateids .ensures) ∙ not-false _ (t .if1 .left)) (ne-eqb _ _ (u .if2 .left)) (sym (p .past-size .ensures) ∙ w .if3 .left)
     (sym (r .too-far .ensures) ∙ c .if4 .taken) refl
-
-too-big-requires : tie.Need-too-big-requires
-too-big-requires c κs = search needs
 
 returns-5 : tie.Need-returns-5
 returns-5 c =
@@ -108,18 +81,9 @@ pub copy-error-spec : {M : Type 1} → statement M
 copy-error-spec =
     tie.close
     (tie.spec
-    pair-stateids-requires
-    returns
+    (λ c κs. search needs) returns
     returns-2
-    mul-past-size
-    shared-slice-read-past-size
-    past-size-requires
-    returns-3
-    mul-source-count
-    shared-slice-read-source-count
-    source-count-requires
-    too-far-requires
-    returns-4
-    too-big-requires
-    returns-5
+    (λ c. search needs) (λ c. search needs) (λ c κs. search needs) returns-3
+    (λ c. search needs) (λ c. search needs) (λ c κs. search needs) (λ c κs. search needs) returns-4
+    (λ c κs. search needs) returns-5
     returns-6)

@@ -10,9 +10,6 @@ copy-error-requires c κs =
     let s = c .before .before .before .before .before .before in
     (s .pre .0 .shaped .geometry, (file-in (s .pre .0 .shaped) (s .pre .1) .0, file-in (s .pre .0 .shaped) (s .pre .0 .file) .0))
 
-same-length : tie.Need-same-length
-same-length c = search needs
-
 returns : tie.Need-returns
 returns c = let k = c .before in pair-error _ _ (k .copy-error .ensures) (c .if1 .taken) (k .before .before .before .before .before .before .before .pre .0 .counted)
 
@@ -22,9 +19,6 @@ mul-source-count c = let s = c .before .before .before .before .before .before .
 slice-read-source-count : tie.Need-slice-read-source-count
 slice-read-source-count c = let s = c .before .before .before .before .before .before .before .before .before .before in file-in (s .pre .0 .shaped) (s .pre .1) .0
 
-source-count-requires : tie.Need-source-count-requires
-source-count-requires c κs = search needs
-
 copy-file-requires : tie.Need-copy-file-requires
 copy-file-requires c κs =
     let n = c .before .before .before .before in
@@ -32,18 +26,6 @@ copy-file-requires c κs =
     let k = t .before in
     let s = k .before .before .before .before .before .before .before in
     copy-known (s .pre .0) (s .pre .1) (s .args .s .now) (s .args .a) (n .source-count .ensures) (k .copy-error .ensures) (t .if1 .left)
-
-same-length-2 : tie.Need-same-length-2
-same-length-2 c = search needs
-
-same-length-3 : tie.Need-same-length-3
-same-length-3 c = search needs
-
-same-length-4 : tie.Need-same-length-4
-same-length-4 c = search needs
-
-same-length-5 : tie.Need-same-length-5
-same-length-5 c = search needs
 
 returns-2 : tie.Need-returns-2
 returns-2 c =
@@ -53,18 +35,6 @@ returns-2 c =
     let k = t .before in
     let a = k .before .before .before .before .before .before .before .args in
     pair-full _ _ (k .copy-error .ensures) (t .if1 .left) (copy-leaves _ _ (a .s .now) (a .a) (n .source-count .ensures)) (d .copy-file .ensures) (not-true _ (c .if2 .taken))
-
-same-length-6 : tie.Need-same-length-6
-same-length-6 c = search needs
-
-same-length-7 : tie.Need-same-length-7
-same-length-7 c = search needs
-
-same-length-8 : tie.Need-same-length-8
-same-length-8 c = search needs
-
-same-length-9 : tie.Need-same-length-9
-same-length-9 c = search needs
 
 returns-3 : tie.Need-returns-3
 returns-3 c =
@@ -79,20 +49,7 @@ pub copy-status-spec : {M : Type 1} → statement M
 copy-status-spec =
     tie.close
     (tie.spec
-    copy-error-requires
-    same-length
-    returns
-    mul-source-count
-    slice-read-source-count
-    source-count-requires
-    copy-file-requires
-    same-length-2
-    same-length-3
-    same-length-4
-    same-length-5
-    returns-2
-    same-length-6
-    same-length-7
-    same-length-8
-    same-length-9
-    returns-3)
+    copy-error-requires (λ c. search needs) returns
+    mul-source-count slice-read-source-count (λ c κs. search needs) copy-file-requires (λ c. search needs)
+    (λ c. search needs) (λ c. search needs) (λ c. search needs) returns-2
+    (λ c. search needs) (λ c. search needs) (λ c. search needs) (λ c. search needs) returns-3)

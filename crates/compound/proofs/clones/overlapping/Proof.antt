@@ -3,9 +3,6 @@ use Rattle.compound.proofs.LeafLaws.{overlap-below, overlap-above}
 use Rattle.compound.proofs.clones.overlapping.Statement.{statement}
 use Rattle.compound.proofs.clones.overlapping.Tie as tie
 
-sub-result : tie.Need-sub-result
-sub-result c = search needs
-
 returns : tie.Need-returns
 returns c = let a = c .before .args in overlap-below (a .a) (a .b) (a .n) (c .if1 .taken)
 
@@ -13,4 +10,8 @@ returns-2 : tie.Need-returns-2
 returns-2 c = let a = c .before .args in overlap-above (a .a) (a .b) (a .n) (c .if1 .left)
 
 pub overlapping-spec : {M : Type 1} → statement M
-overlapping-spec = tie.close (tie.spec sub-result returns returns-2)
+overlapping-spec =
+    tie.close
+    (tie.spec
+    (λ c. search needs) returns
+    returns-2)

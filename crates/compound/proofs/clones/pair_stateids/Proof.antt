@@ -4,14 +4,8 @@ use Rattle.compound.proofs.LeafLaws.{both-false, both-second}
 use Rattle.compound.proofs.clones.pair_stateids.Statement.{statement}
 use Rattle.compound.proofs.clones.pair_stateids.Tie as tie
 
-read-stateid-requires : tie.Need-read-stateid-requires
-read-stateid-requires c κs = search needs
-
 returns : tie.Need-returns
 returns c = both-false _ (c .before .read-stateid .ensures) (not-true _ (c .if1 .taken))
-
-zero-stateid-requires : tie.Need-zero-stateid-requires
-zero-stateid-requires c κs = search needs
 
 returns-2 : tie.Need-returns-2
 returns-2 c =
@@ -20,4 +14,7 @@ returns-2 c =
 
 pub pair-stateids-spec : {M : Type 1} → statement M
 pair-stateids-spec =
-    tie.close (tie.spec read-stateid-requires returns zero-stateid-requires returns-2)
+    tie.close
+    (tie.spec
+    (λ c κs. search needs) returns
+    (λ c κs. search needs) returns-2)

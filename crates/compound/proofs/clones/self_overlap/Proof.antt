@@ -6,9 +6,6 @@ use Rattle.compound.proofs.clones.self_overlap.Tie as tie
 returns : tie.Need-returns
 returns c = let a = c .before .args in rw (ne-eqb (a .e) (a .f) (c .if1 .taken))
 
-overlapping-requires : tie.Need-overlapping-requires
-overlapping-requires c κs = search needs
-
 returns-2 : tie.Need-returns-2
 returns-2 c =
     let t = c .before in
@@ -16,4 +13,8 @@ returns-2 c =
     rw (eq-eqb (a .e) (a .f) (t .if1 .left)) (c .overlapping .ensures)
 
 pub self-overlap-spec : {M : Type 1} → statement M
-self-overlap-spec = tie.close (tie.spec returns overlapping-requires returns-2)
+self-overlap-spec =
+    tie.close
+    (tie.spec
+    returns
+    (λ c κs. search needs) returns-2)

@@ -7,15 +7,9 @@ use borrow.Author.Needs.{needs}
 use Rattle.compound.proofs.edits.allocate_error.Statement.{statement}
 use Rattle.compound.proofs.edits.allocate_error.Tie as tie
 
-zero-stateid-requires : tie.Need-zero-stateid-requires
-zero-stateid-requires c κs = search needs
-
 returns : tie.Need-returns
 unfolding errors
 returns c = λ x h. miss _ h (hit _ (ap not (sym (c .before .zero-stateid .ensures)) ∙ c .if1 .taken))
-
-too-far-requires : tie.Need-too-far-requires
-too-far-requires c κs = search needs
 
 returns-2 : tie.Need-returns-2
 unfolding errors
@@ -32,9 +26,6 @@ returns-3 c =
     let z = k .before in
     λ x h. miss _ h (miss _ (ap not (sym (z .before .zero-stateid .ensures)) ∙ z .if1 .left) (miss _ (sym (k .too-far .ensures) ∙ t .if2 .left)
     (hit _ (eq-eqb _ 0 (c .if3 .taken)))))
-
-too-big-requires : tie.Need-too-big-requires
-too-big-requires c κs = search needs
 
 returns-4 : tie.Need-returns-4
 unfolding errors
@@ -62,11 +53,8 @@ pub allocate-error-spec : {M : Type 1} → statement M
 allocate-error-spec =
     tie.close
     (tie.spec
-    zero-stateid-requires
-    returns
-    too-far-requires
-    returns-2
+    (λ c κs. search needs) returns
+    (λ c κs. search needs) returns-2
     returns-3
-    too-big-requires
-    returns-4
+    (λ c κs. search needs) returns-4
     returns-5)

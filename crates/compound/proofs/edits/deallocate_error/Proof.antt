@@ -7,15 +7,9 @@ use borrow.Author.Needs.{needs}
 use Rattle.compound.proofs.edits.deallocate_error.Statement.{statement}
 use Rattle.compound.proofs.edits.deallocate_error.Tie as tie
 
-zero-stateid-requires : tie.Need-zero-stateid-requires
-zero-stateid-requires c κs = search needs
-
 returns : tie.Need-returns
 unfolding errors
 returns c = λ x h. miss _ h (hit _ (ap not (sym (c .before .zero-stateid .ensures)) ∙ c .if1 .taken))
-
-too-far-requires : tie.Need-too-far-requires
-too-far-requires c κs = search needs
 
 returns-2 : tie.Need-returns-2
 unfolding errors
@@ -45,4 +39,8 @@ returns-4 c =
 pub deallocate-error-spec : {M : Type 1} → statement M
 deallocate-error-spec =
     tie.close
-    (tie.spec zero-stateid-requires returns too-far-requires returns-2 returns-3 returns-4)
+    (tie.spec
+    (λ c κs. search needs) returns
+    (λ c κs. search needs) returns-2
+    returns-3
+    returns-4)

@@ -7,9 +7,6 @@ use borrow.Author.Needs.{needs}
 use Rattle.compound.proofs.edits.deallocate_status.Statement.{statement}
 use Rattle.compound.proofs.edits.deallocate_status.Tie as tie
 
-deallocate-error-requires : tie.Need-deallocate-error-requires
-deallocate-error-requires c κs = search needs
-
 returns : tie.Need-returns
 returns c =
     let k = c .before in
@@ -33,18 +30,6 @@ cut-end-requires c κs =
     let s = k .before .before .before .before .before .before in
     deallocate-sum (s .pre) (t .if1 .left) _ _ _ (k .deallocate-error .ensures)
 
-deallocate-file-requires : tie.Need-deallocate-file-requires
-deallocate-file-requires c κs = search needs
-
-same-length : tie.Need-same-length
-same-length c = search needs
-
-same-length-2 : tie.Need-same-length-2
-same-length-2 c = search needs
-
-same-length-3 : tie.Need-same-length-3
-same-length-3 c = search needs
-
 returns-2 : tie.Need-returns-2
 returns-2 c =
     let w = c .before .before .before .before .before .before .before in
@@ -52,15 +37,6 @@ returns-2 c =
     let t = m .before .before in
     λ v x next current same. edit-full _ v x _ next _ same _ (deallocate-leaves _ x current same _ _ _ (m .cut-end .ensures))
     (sym (t .before .deallocate-error .ensures x (has-file current)) ∙ t .if1 .left) (w .deallocate-file .ensures) (not-true _ (c .if2 .taken))
-
-same-length-4 : tie.Need-same-length-4
-same-length-4 c = search needs
-
-same-length-5 : tie.Need-same-length-5
-same-length-5 c = search needs
-
-same-length-6 : tie.Need-same-length-6
-same-length-6 c = search needs
 
 returns-3 : tie.Need-returns-3
 returns-3 c =
@@ -74,17 +50,7 @@ pub deallocate-status-spec : {M : Type 1} → statement M
 deallocate-status-spec =
     tie.close
     (tie.spec
-    deallocate-error-requires
-    returns
-    mul-cut-end
-    shared-slice-read-cut-end
-    cut-end-requires
-    deallocate-file-requires
-    same-length
-    same-length-2
-    same-length-3
-    returns-2
-    same-length-4
-    same-length-5
-    same-length-6
-    returns-3)
+    (λ c κs. search needs) returns
+    mul-cut-end shared-slice-read-cut-end cut-end-requires (λ c κs. search needs) (λ c. search needs)
+    (λ c. search needs) (λ c. search needs) returns-2
+    (λ c. search needs) (λ c. search needs) (λ c. search needs) returns-3)

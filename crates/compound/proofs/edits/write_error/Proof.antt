@@ -6,18 +6,9 @@ use borrow.Author.Needs.{needs}
 use Rattle.compound.proofs.edits.write_error.Statement.{statement}
 use Rattle.compound.proofs.edits.write_error.Tie as tie
 
-zero-stateid-requires : tie.Need-zero-stateid-requires
-zero-stateid-requires c κs = search needs
-
 returns : tie.Need-returns
 unfolding errors
 returns c = λ x h. miss _ h (hit _ (ap not (sym (c .before .zero-stateid .ensures)) ∙ c .if1 .taken))
-
-part-requires : tie.Need-part-requires
-part-requires c κs = search needs
-
-too-far-requires : tie.Need-too-far-requires
-too-far-requires c κs = search needs
 
 returns-2 : tie.Need-returns-2
 unfolding errors
@@ -27,9 +18,6 @@ returns-2 c =
     let z = p .before in
     let far = rw (p .part .ensures) at (k .too-far .ensures) in
     λ x h. miss _ h (miss _ (ap not (sym (z .before .zero-stateid .ensures)) ∙ z .if1 .left) (hit _ (sym far ∙ c .if2 .taken)))
-
-too-big-requires : tie.Need-too-big-requires
-too-big-requires c κs = search needs
 
 returns-3 : tie.Need-returns-3
 unfolding errors
@@ -61,11 +49,7 @@ pub write-error-spec : {M : Type 1} → statement M
 write-error-spec =
     tie.close
     (tie.spec
-    zero-stateid-requires
-    returns
-    part-requires
-    too-far-requires
-    returns-2
-    too-big-requires
-    returns-3
+    (λ c κs. search needs) returns
+    (λ c κs. search needs) (λ c κs. search needs) returns-2
+    (λ c κs. search needs) returns-3
     returns-4)

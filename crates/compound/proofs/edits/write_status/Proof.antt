@@ -6,17 +6,11 @@ use borrow.Author.Needs.{needs}
 use Rattle.compound.proofs.edits.write_status.Statement.{statement}
 use Rattle.compound.proofs.edits.write_status.Tie as tie
 
-write-error-requires : tie.Need-write-error-requires
-write-error-requires c κs = search needs
-
 returns : tie.Need-returns
 returns c =
     let k = c .before in
     let s = k .before .before .before .before .before .before in
     λ v x next current same. edit-failed _ v x _ next _ same _ (sym (k .write-error .ensures x (has-file current))) (c .if1 .taken) (s .pre .counted)
-
-part-requires : tie.Need-part-requires
-part-requires c κs = search needs
 
 write-file-requires : tie.Need-write-file-requires
 write-file-requires c κs =
@@ -26,18 +20,6 @@ write-file-requires c κs =
     let s = k .before .before .before .before .before .before in
     write-known (s .pre) (t .if1 .left) _ _ _ _ (p .part .ensures) (k .write-error .ensures)
 
-same-length : tie.Need-same-length
-same-length c = search needs
-
-same-length-2 : tie.Need-same-length-2
-same-length-2 c = search needs
-
-same-length-3 : tie.Need-same-length-3
-same-length-3 c = search needs
-
-same-length-4 : tie.Need-same-length-4
-same-length-4 c = search needs
-
 returns-2 : tie.Need-returns-2
 returns-2 c =
     let w = c .before .before .before .before .before .before .before .before .before in
@@ -45,18 +27,6 @@ returns-2 c =
     let t = p .before in
     λ v x next current same. edit-full _ v x _ next _ same _ (write-leaves _ x current same _ _ _ _ (p .part .ensures))
     (sym (t .before .write-error .ensures x (has-file current)) ∙ t .if1 .left) (w .write-file .ensures) (not-true _ (c .if2 .taken))
-
-same-length-5 : tie.Need-same-length-5
-same-length-5 c = search needs
-
-same-length-6 : tie.Need-same-length-6
-same-length-6 c = search needs
-
-same-length-7 : tie.Need-same-length-7
-same-length-7 c = search needs
-
-same-length-8 : tie.Need-same-length-8
-same-length-8 c = search needs
 
 returns-3 : tie.Need-returns-3
 returns-3 c =
@@ -70,17 +40,7 @@ pub write-status-spec : {M : Type 1} → statement M
 write-status-spec =
     tie.close
     (tie.spec
-    write-error-requires
-    returns
-    part-requires
-    write-file-requires
-    same-length
-    same-length-2
-    same-length-3
-    same-length-4
-    returns-2
-    same-length-5
-    same-length-6
-    same-length-7
-    same-length-8
-    returns-3)
+    (λ c κs. search needs) returns
+    (λ c κs. search needs) write-file-requires (λ c. search needs) (λ c. search needs) (λ c. search needs)
+    (λ c. search needs) returns-2
+    (λ c. search needs) (λ c. search needs) (λ c. search needs) (λ c. search needs) returns-3)

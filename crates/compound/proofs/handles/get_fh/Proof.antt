@@ -8,18 +8,6 @@ use borrow.Author.Needs.{needs}
 use Rattle.compound.proofs.handles.get_fh.Statement.{statement}
 use Rattle.compound.proofs.handles.get_fh.Tie as tie
 
-enum-known-current : tie.Need-enum-known-current
-enum-known-current c = search needs
-
-enum-told : tie.Need-enum-told
-enum-told c = search needs
-
-without-body-requires : tie.Need-without-body-requires
-without-body-requires c κs = search needs
-
-same-length : tie.Need-same-length
-same-length c = search needs
-
 returns : tie.Need-returns
 unfolding errors
 returns c =
@@ -28,23 +16,11 @@ returns c =
     let a = t .before .before .before .args in
     λ g v st counts next known counted. no-handle g v (a .current) (a .saved) st GETFH next counted (a .current) refl (t .enum-told .given .1) (w .without-body .ensures)
 
-put-result-requires : tie.Need-put-result-requires
-put-result-requires c κs = search needs
-
-put-u32-requires : tie.Need-put-u32-requires
-put-u32-requires c κs = search needs
-
 cast-put-u32 : tie.Need-cast-put-u32
 cast-put-u32 c =
     let m = c .before .before .before .before .before .before .before .before .before .before in
     let s = m .before .before .before in
     omega (arith, s .pre .0 _ (ap fileIn (m .current .given .1)))
-
-put-u32-requires-2 : tie.Need-put-u32-requires-2
-put-u32-requires-2 c κs = search needs
-
-same-length-2 : tie.Need-same-length-2
-same-length-2 c = search needs
 
 returns-2 : tie.Need-returns-2
 returns-2 c =
@@ -62,14 +38,6 @@ pub get-fh-spec : {M : Type 1} → statement M
 get-fh-spec =
     tie.close
     (tie.spec
-    enum-known-current
-    enum-told
-    without-body-requires
-    same-length
-    returns
-    put-result-requires
-    put-u32-requires
-    cast-put-u32
-    put-u32-requires-2
-    same-length-2
+    (λ c. search needs) (λ c. search needs) (λ c κs. search needs) (λ c. search needs) returns
+    (λ c κs. search needs) (λ c κs. search needs) cast-put-u32 (λ c κs. search needs) (λ c. search needs)
     returns-2)

@@ -12,15 +12,6 @@ use borrow.Author.Needs.{needs}
 use Rattle.compound.proofs.handles.put_fh.Statement.{statement}
 use Rattle.compound.proofs.handles.put_fh.Tie as tie
 
-part-requires : tie.Need-part-requires
-part-requires c κs = search needs
-
-without-body-requires : tie.Need-without-body-requires
-without-body-requires c κs = search needs
-
-same-length : tie.Need-same-length
-same-length c = search needs
-
 returns : tie.Need-returns
 returns c =
     let w = c .before .before in
@@ -31,24 +22,6 @@ returns c =
     refused-answer _ v (a .current) (a .saved) st (PUTFH (partOf (a .s .now) (a .d))) next counted BADHANDLE
     (bad-length _ _ (k .part .ensures) _ _ (t .if1 .taken)) (λ q. omega (arith, q)) (w .without-body .ensures)
 
-new-requires : tie.Need-new-requires
-new-requires c κs = search needs
-
-word-requires : tie.Need-word-requires
-word-requires c κs = search needs
-
-enum-known-f : tie.Need-enum-known-f
-enum-known-f c = search needs
-
-enum-told : tie.Need-enum-told
-enum-told c = search needs
-
-without-body-requires-2 : tie.Need-without-body-requires-2
-without-body-requires-2 c κs = search needs
-
-same-length-2 : tie.Need-same-length-2
-same-length-2 c = search needs
-
 returns-2 : tie.Need-returns-2
 returns-2 c =
     let e = c .before .before .before .before in
@@ -57,15 +30,6 @@ returns-2 c =
     let t = n .before in
     let k = t .before in
     absurd (no-fault _ _ (k .part .ensures) (t .if1 .left) _ (n .new .ensures) (sym (w .word .ensures) ∙ ap ofWord (e .enum-told .given .1)))
-
-cast-if2 : tie.Need-cast-if2
-cast-if2 c = search needs
-
-without-body-requires-3 : tie.Need-without-body-requires-3
-without-body-requires-3 c κs = search needs
-
-same-length-3 : tie.Need-same-length-3
-same-length-3 c = search needs
 
 returns-3 : tie.Need-returns-3
 returns-3 c =
@@ -81,15 +45,6 @@ returns-3 c =
     λ v st counts next known counted.
     refused-answer _ v (a .current) (a .saved) st (PUTFH (partOf (a .s .now) (a .d))) next counted STALE
     (stale _ _ (k .part .ensures) (t .if1 .left) _ _ e (i .if2 .taken)) (λ q. omega (arith, q)) (w .without-body3 .ensures)
-
-cast-t10 : tie.Need-cast-t10
-cast-t10 c = search needs
-
-without-body-requires-4 : tie.Need-without-body-requires-4
-without-body-requires-4 c κs = search needs
-
-same-length-4 : tie.Need-same-length-4
-same-length-4 c = search needs
 
 returns-4 : tie.Need-returns-4
 unfolding effect body does
@@ -111,22 +66,8 @@ pub put-fh-spec : {M : Type 1} → statement M
 put-fh-spec =
     tie.close
     (tie.spec
-    part-requires
-    without-body-requires
-    same-length
-    returns
-    new-requires
-    word-requires
-    enum-known-f
-    enum-told
-    without-body-requires-2
-    same-length-2
-    returns-2
-    cast-if2
-    without-body-requires-3
-    same-length-3
-    returns-3
-    cast-t10
-    without-body-requires-4
-    same-length-4
-    returns-4)
+    (λ c κs. search needs) (λ c κs. search needs) (λ c. search needs) returns
+    (λ c κs. search needs) (λ c κs. search needs) (λ c. search needs) (λ c. search needs) (λ c κs. search needs)
+    (λ c. search needs) returns-2
+    (λ c. search needs) (λ c κs. search needs) (λ c. search needs) returns-3
+    (λ c. search needs) (λ c κs. search needs) (λ c. search needs) returns-4)

@@ -10,27 +10,6 @@ mul-size c = let w = c .before .before .before .before .pre in omega (arith, fil
 shared-slice-read-size : tie.Need-shared-slice-read-size
 shared-slice-read-size c = let w = c .before .before .before .before .before .pre in file-listed (w .shaped) (w .file)
 
-grant-requires : tie.Need-grant-requires
-grant-requires c κs = search needs
-
-reaches-requires : tie.Need-reaches-requires
-reaches-requires c κs = search needs
-
-put-bool-requires : tie.Need-put-bool-requires
-put-bool-requires c κs = search needs
-
-grant-requires-2 : tie.Need-grant-requires-2
-grant-requires-2 c κs = search needs
-
-below-requires : tie.Need-below-requires
-below-requires c κs = search needs
-
-put-u32-requires : tie.Need-put-u32-requires
-put-u32-requires c κs = search needs
-
-same-length : tie.Need-same-length
-same-length c = search needs
-
 returns : tie.Need-returns
 returns c =
     let k = c .before .before in
@@ -46,9 +25,6 @@ put-file-bytes-requires c κs =
     let b = m .before .before .before .before in
     bytes-fit (b .before .before .before .before .before .before .before .before .before .pre) _ _ (m .before .grant2 .ensures) (m .below .ensures) (c .before .if1 .left) (b .put-bool .ensures)
 
-same-length-2 : tie.Need-same-length-2
-same-length-2 c = search needs
-
 returns-2 : tie.Need-returns-2
 returns-2 c =
     let k = c .before .before in
@@ -63,16 +39,6 @@ pub put-read-spec : {M : Type 1} → statement M
 put-read-spec =
     tie.close
     (tie.spec
-    mul-size
-    shared-slice-read-size
-    grant-requires
-    reaches-requires
-    put-bool-requires
-    grant-requires-2
-    below-requires
-    put-u32-requires
-    same-length
-    returns
-    put-file-bytes-requires
-    same-length-2
-    returns-2)
+    mul-size shared-slice-read-size (λ c κs. search needs) (λ c κs. search needs) (λ c κs. search needs)
+    (λ c κs. search needs) (λ c κs. search needs) (λ c κs. search needs) (λ c. search needs) returns
+    put-file-bytes-requires (λ c. search needs) returns-2)

@@ -11,35 +11,11 @@ mul-size c = let w = c .before .before .before .before .pre in omega (arith, fil
 shared-slice-read-size : tie.Need-shared-slice-read-size
 shared-slice-read-size c = let w = c .before .before .before .before .before .pre in file-listed (w .shaped) (w .file)
 
-grant-requires : tie.Need-grant-requires
-grant-requires c κs = search needs
-
-reaches-requires : tie.Need-reaches-requires
-reaches-requires c κs = search needs
-
-put-bool-requires : tie.Need-put-bool-requires
-put-bool-requires c κs = search needs
-
-grant-requires-2 : tie.Need-grant-requires-2
-grant-requires-2 c κs = search needs
-
-read-end-requires : tie.Need-read-end-requires
-read-end-requires c κs = search needs
-
-add-put-pieces : tie.Need-add-put-pieces
-add-put-pieces c = search needs
-
 put-pieces-requires : tie.Need-put-pieces-requires
 put-pieces-requires c κs =
     let d = c .before in
     let b = d .before .before .before .before in
     pieces-fit (b .before .before .before .before .before .before .before .before .before .pre) _ _ (d .before .grant2 .ensures) (d .read-end .ensures) (b .put-bool .ensures)
-
-put-u32-requires : tie.Need-put-u32-requires
-put-u32-requires c κs = search needs
-
-same-length : tie.Need-same-length
-same-length c = search needs
 
 returns : tie.Need-returns
 returns c =
@@ -55,15 +31,6 @@ pub put-read-plus-spec : {M : Type 1} → statement M
 put-read-plus-spec =
     tie.close
     (tie.spec
-    mul-size
-    shared-slice-read-size
-    grant-requires
-    reaches-requires
-    put-bool-requires
-    grant-requires-2
-    read-end-requires
-    add-put-pieces
-    put-pieces-requires
-    put-u32-requires
-    same-length
-    returns)
+    mul-size shared-slice-read-size (λ c κs. search needs) (λ c κs. search needs) (λ c κs. search needs)
+    (λ c κs. search needs) (λ c κs. search needs) (λ c. search needs) put-pieces-requires (λ c κs. search needs)
+    (λ c. search needs) returns)

@@ -14,31 +14,13 @@ shared-slice-read-size c = let w = c .before .before .before .before .before .pr
 seek-file-requires : tie.Need-seek-file-requires
 seek-file-requires c κs = shown-placed (c .before .before .before .before .before .pre)
 
-put-bool-requires : tie.Need-put-bool-requires
-put-bool-requires c κs = search needs
-
-put-u64-requires : tie.Need-put-u64-requires
-put-u64-requires c κs = search needs
-
-same-length : tie.Need-same-length
-same-length c = search needs
-
 returns : tie.Need-returns
 returns c =
     let k = c .before .before in
-    let b = k .before .before .before .before in
-    let p = b .before .before in
+    let p = k .before .before in
     let e = p .before .before .before .before .before .before in
-    seek-written (e .pre) _ _ (p .seek-file .ensures (e .args .sizes .now) (e .args .mem .now) refl) (b .put-bool .ensures) (k .put-u64 .ensures)
+    seek-written (e .pre) _ _ (p .seek-file .ensures (e .args .sizes .now) (e .args .mem .now) refl) (k .put-sought .ensures)
 
 pub put-seek-spec : {M : Type 1} → statement M
 put-seek-spec =
-    tie.close
-    (tie.spec
-    mul-size
-    shared-slice-read-size
-    seek-file-requires
-    put-bool-requires
-    put-u64-requires
-    same-length
-    returns)
+    tie.close (tie.spec mul-size shared-slice-read-size seek-file-requires (λ c κs. search needs) (λ c. search needs) returns)

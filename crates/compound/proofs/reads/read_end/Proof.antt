@@ -6,9 +6,6 @@ use borrow.Author.Tests.{leb-true, leb-false}
 use Rattle.compound.proofs.reads.read_end.Statement.{statement}
 use Rattle.compound.proofs.reads.read_end.Tie as tie
 
-reaches-requires : tie.Need-reaches-requires
-reaches-requires c κs = search needs
-
 returns : tie.Need-returns
 returns c =
     let r = c .before in
@@ -28,4 +25,8 @@ returns-2 c =
     omega (arith, leb-false (a .size) (a .off + a .n) (sym (r .reaches .ensures) ∙ c .if1 .left))
 
 pub read-end-spec : {M : Type 1} → statement M
-read-end-spec = tie.close (tie.spec reaches-requires returns add-result returns-2)
+read-end-spec =
+    tie.close
+    (tie.spec
+    (λ c κs. search needs) returns
+    add-result returns-2)

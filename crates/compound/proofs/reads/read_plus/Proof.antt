@@ -6,31 +6,10 @@ use Rattle.compound.proofs.ReadOps.{plus-shown, shows, shown-no-file, s
 use Rattle.compound.proofs.reads.read_plus.Statement.{statement}
 use Rattle.compound.proofs.reads.read_plus.Tie as tie
 
-enum-known-current : tie.Need-enum-known-current
-enum-known-current c = search needs
-
-enum-told : tie.Need-enum-told
-enum-told c = search needs
-
-without-body-requires : tie.Need-without-body-requires
-without-body-requires c κs = search needs
-
-same-length : tie.Need-same-length
-same-length c = search needs
-
 returns : tie.Need-returns
 returns c =
     let k = c .before .before in
     λ v counts next n. shown-no-file (plus-shown _ _ _) _ v _ next refl refl n (ap fileIn (k .before .before .enum-told .given .1)) (k .without-body .ensures)
-
-read-stateid-requires : tie.Need-read-stateid-requires
-read-stateid-requires c κs = search needs
-
-without-body-requires-2 : tie.Need-without-body-requires-2
-without-body-requires-2 c κs = search needs
-
-same-length-2 : tie.Need-same-length-2
-same-length-2 c = search needs
 
 returns-2 : tie.Need-returns-2
 returns-2 c =
@@ -41,18 +20,12 @@ returns-2 c =
     λ v counts next n. shown-bad-stateid (plus-shown _ _ _) _ v _ next (ap fileIn (sym h)) refl n (ap fileIn h) (sym (s .read-stateid .ensures) ∙ not-true _ (t .if1 .taken))
     (k .without-body2 .ensures)
 
-put-result-requires : tie.Need-put-result-requires
-put-result-requires c κs = search needs
-
 put-read-plus-requires : tie.Need-put-read-plus-requires
 put-read-plus-requires c κs =
     let k = c .before .before .before in
     let f = k .before .before .before .before .before in
     let e = f .before .before .before .before .before .before .before in
     shows (e .pre .0) (ap fileIn (f .current .given .1)) (e .pre .1) (k .put-result .ensures)
-
-same-length-3 : tie.Need-same-length-3
-same-length-3 c = search needs
 
 returns-3 : tie.Need-returns-3
 returns-3 c =
@@ -70,16 +43,6 @@ pub read-plus-spec : {M : Type 1} → statement M
 read-plus-spec =
     tie.close
     (tie.spec
-    enum-known-current
-    enum-told
-    without-body-requires
-    same-length
-    returns
-    read-stateid-requires
-    without-body-requires-2
-    same-length-2
-    returns-2
-    put-result-requires
-    put-read-plus-requires
-    same-length-3
-    returns-3)
+    (λ c. search needs) (λ c. search needs) (λ c κs. search needs) (λ c. search needs) returns
+    (λ c κs. search needs) (λ c κs. search needs) (λ c. search needs) returns-2
+    (λ c κs. search needs) put-read-plus-requires (λ c. search needs) returns-3)

@@ -6,18 +6,6 @@ use Rattle.compound.proofs.ReadOps.{seek-shown, shows, file-small, file
 use Rattle.compound.proofs.reads.seek.Statement.{statement}
 use Rattle.compound.proofs.reads.seek.Tie as tie
 
-enum-known-current : tie.Need-enum-known-current
-enum-known-current c = search needs
-
-enum-told : tie.Need-enum-told
-enum-told c = search needs
-
-without-body-requires : tie.Need-without-body-requires
-without-body-requires c κs = search needs
-
-same-length : tie.Need-same-length
-same-length c = search needs
-
 returns : tie.Need-returns
 returns c =
     let k = c .before .before in
@@ -35,15 +23,6 @@ shared-slice-read-seek-error c =
     let k = f .before .before .before .before .before .before .before .pre .0 in
     file-listed (k .shaped) (k .current _ (ap fileIn (f .current .given .1)))
 
-seek-error-requires : tie.Need-seek-error-requires
-seek-error-requires c κs = search needs
-
-without-body-requires-2 : tie.Need-without-body-requires-2
-without-body-requires-2 c κs = search needs
-
-same-length-2 : tie.Need-same-length-2
-same-length-2 c = search needs
-
 returns-2 : tie.Need-returns-2
 returns-2 c =
     let k = c .before .before in
@@ -53,18 +32,12 @@ returns-2 c =
     λ v counts next n. shown-failed (seek-shown _ _ _) _ v _ next (ap fileIn (sym h)) refl n (sym (s .seek-error .ensures _ _ _ (ap fileIn h) refl)) (t .if1 .taken)
     (k .without-body2 .ensures)
 
-put-result-requires : tie.Need-put-result-requires
-put-result-requires c κs = search needs
-
 put-seek-requires : tie.Need-put-seek-requires
 put-seek-requires c κs =
     let k = c .before .before .before in
     let f = k .before .before .before .before .before .before in
     let e = f .before .before .before .before .before .before .before in
     shows (e .pre .0) (ap fileIn (f .current .given .1)) (e .pre .1) (k .put-result .ensures)
-
-same-length-3 : tie.Need-same-length-3
-same-length-3 c = search needs
 
 returns-3 : tie.Need-returns-3
 returns-3 c =
@@ -82,18 +55,7 @@ pub seek-spec : {M : Type 1} → statement M
 seek-spec =
     tie.close
     (tie.spec
-    enum-known-current
-    enum-told
-    without-body-requires
-    same-length
-    returns
-    mul-seek-error
-    shared-slice-read-seek-error
-    seek-error-requires
-    without-body-requires-2
-    same-length-2
+    (λ c. search needs) (λ c. search needs) (λ c κs. search needs) (λ c. search needs) returns
+    mul-seek-error shared-slice-read-seek-error (λ c κs. search needs) (λ c κs. search needs) (λ c. search needs)
     returns-2
-    put-result-requires
-    put-seek-requires
-    same-length-3
-    returns-3)
+    (λ c κs. search needs) put-seek-requires (λ c. search needs) returns-3)

@@ -5,9 +5,6 @@ use Rattle.compound.proofs.ReadOps.{seek-stateid, seek-kind, seek-past-
 use Rattle.compound.proofs.reads.seek_error.Statement.{statement}
 use Rattle.compound.proofs.reads.seek_error.Tie as tie
 
-read-stateid-requires : tie.Need-read-stateid-requires
-read-stateid-requires c κs = search needs
-
 returns : tie.Need-returns
 returns c =
     let k = c .before in
@@ -31,4 +28,10 @@ returns-4 c =
     λ g x f h e. seek-clear _ _ _ (sym (t .before .read-stateid .ensures) ∙ not-false _ (t .if1 .left)) (u .if2 .left) g x f h e (c .if3 .left)
 
 pub seek-error-spec : {M : Type 1} → statement M
-seek-error-spec = tie.close (tie.spec read-stateid-requires returns returns-2 returns-3 returns-4)
+seek-error-spec =
+    tie.close
+    (tie.spec
+    (λ c κs. search needs) returns
+    returns-2
+    returns-3
+    returns-4)

@@ -4,11 +4,11 @@ use Rattle.compound.proofs.LeafLaws.{too-far}
 use Rattle.compound.proofs.region.too_far.Statement.{statement}
 use Rattle.compound.proofs.region.too_far.Tie as tie
 
-sub-result : tie.Need-sub-result
-sub-result c = search needs
-
 returns : tie.Need-returns
 returns c = too-far (c .args .off) (c .args .n) (omega arith)
 
 pub too-far-spec : {M : Type 1} → statement M
-too-far-spec = tie.close (tie.spec sub-result returns)
+too-far-spec =
+    tie.close
+    (tie.spec
+    (λ c. search needs) returns)

@@ -6,19 +6,10 @@ use Rattle.compound.proofs.ServeLaws.{served-none, served-some, few-ops
 use Rattle.compound.proofs.serving.serve_operations.Statement.{statement}
 use Rattle.compound.proofs.serving.serve_operations.Tie as tie
 
-part-requires : tie.Need-part-requires
-part-requires c κs = search needs
-
-header-status-requires : tie.Need-header-status-requires
-header-status-requires c κs = search needs
-
 put-head-requires : tie.Need-put-head-requires
 put-head-requires c κs =
     let k = c .before .before .before in
-    (rw (k .part .ensures) (k .before .before .before .before .before .before .before .before .pre .1), omega (arith, k .before .before .before .before .before .before .before .before .pre .0 .room))
-
-same-length : tie.Need-same-length
-same-length c = search needs
+    (rw (k .part .ensures) (k .before .before .before .before .before .before .before .before .before .pre .1), omega (arith, k .before .before .before .before .before .before .before .before .before .pre .0 .room))
 
 returns : tie.Need-returns
 returns c =
@@ -27,44 +18,20 @@ returns c =
     let k = e .before in
     served-none _ _ _ _ _ _ _ _ (sym (e .header-status .ensures)) (h .before .before .if1 .taken) (rw (k .part .ensures) at (h .put-head .ensures))
 
-padding-requires : tie.Need-padding-requires
-padding-requires c κs = search needs
-
-add-out : tie.Need-add-out
-add-out c = search needs
-
-add-out-2 : tie.Need-add-out-2
-add-out-2 c = search needs
-
 run-requires : tie.Need-run-requires
 run-requires c κs =
     let d = c .before .before .before .before .before in
     let e = d .before .before in
     let k = e .before in
-    let s = k .before .before .before .before .before .before .before .before in
-    rw (d .padding .ensures) (runs-all (s .pre .0) _ _ (rw (k .part .ensures) (s .pre .1)) (few-ops (s .args .minor) (s .args .ops) (sym (d .before .if1 .left) ∙ e .header-status .ensures)))
+    let s = k .before .before .before .before .before .before .before .before .before in
+    rw (d .padding .ensures) (runs-all (s .pre .0) _ _ (rw (k .part .ensures) (s .pre .1)) (few-ops (s .args .h .minor) (s .args .h .ops) (sym (d .before .if1 .left) ∙ e .header-status .ensures)))
 
 put-head-requires-2 : tie.Need-put-head-requires-2
 put-head-requires-2 c κs =
     let r = c .before .before .before .before .before .before .before .before .before .before .before in
     let k = r .before .before .before .before .before .before .before .before .before in
-    let s = k .before .before .before .before .before .before .before .before in
-    (rw (k .part .ensures) (s .pre .1), omega (arith, s .pre .0 .room, r .run .kept .1 .1 .1 .1 .1 .1 .1 .1 .1 .1 .0))
-
-same-length-2 : tie.Need-same-length-2
-same-length-2 c = search needs
-
-same-length-3 : tie.Need-same-length-3
-same-length-3 c = search needs
-
-same-length-4 : tie.Need-same-length-4
-same-length-4 c = search needs
-
-same-length-5 : tie.Need-same-length-5
-same-length-5 c = search needs
-
-same-length-6 : tie.Need-same-length-6
-same-length-6 c = search needs
+    let s = k .before .before .before .before .before .before .before .before .before in
+    (rw (k .part .ensures) (s .pre .1), omega (arith, s .pre .0 .room, r .run .kept .1 .1 .1 .1 .1 .1 .1 .1 .1 .0))
 
 returns-2 : tie.Need-returns-2
 returns-2 c =
@@ -73,7 +40,7 @@ returns-2 c =
     let d = r .before .before .before .before .before .before in
     let e = d .before .before in
     let k = e .before in
-    let s = k .before .before .before .before .before .before .before .before in
+    let s = k .before .before .before .before .before .before .before .before .before in
     let most = results-fit (s .pre .0) _ _ in
     served-some _ _ _ _ _ _ _ (sym (e .header-status .ensures) ∙ d .before .if1 .left)
     (head-place _ _ _ (ap length (k .part .ensures)) (d .padding .ensures)) (r .run .ensures) (omega (arith, s .pre .0 .room, s .pre .1, ap length (k .part .ensures), d .padding .ensures)) most
@@ -83,19 +50,6 @@ pub serve-operations-spec : {M : Type 1} → statement M
 serve-operations-spec =
     tie.close
     (tie.spec
-    part-requires
-    header-status-requires
-    put-head-requires
-    same-length
-    returns
-    padding-requires
-    add-out
-    add-out-2
-    run-requires
-    put-head-requires-2
-    same-length-2
-    same-length-3
-    same-length-4
-    same-length-5
-    same-length-6
-    returns-2)
+    (λ c κs. search needs) (λ c κs. search needs) put-head-requires (λ c. search needs) returns
+    (λ c κs. search needs) (λ c. search needs) (λ c. search needs) run-requires put-head-requires-2
+    (λ c. search needs) (λ c. search needs) (λ c. search needs) (λ c. search needs) (λ c. search needs) returns-2)

@@ -5,12 +5,6 @@ use borrow.Author.Needs.{needs}
 use Rattle.store.proofs.bytes.block_start.Statement.{statement}
 use Rattle.store.proofs.bytes.block_start.Tie as tie
 
-cast-result : tie.Need-cast-result
-cast-result c = search needs
-
-sub-result : tie.Need-sub-result
-sub-result c = search needs
-
 mul-result : tie.Need-mul-result
 mul-result c = let s = c .before in omega (arith, s .pre, block-start (geometryOf (s .args .g)) (s .args .w) (s .pre .0))
 
@@ -18,4 +12,7 @@ returns : tie.Need-returns
 returns c = block-start _ _ (c .before .pre .0)
 
 pub block-start-spec : {M : Type 1} → statement M
-block-start-spec = tie.close (tie.spec cast-result sub-result mul-result returns)
+block-start-spec =
+    tie.close
+    (tie.spec
+    (λ c. search needs) (λ c. search needs) mul-result returns)

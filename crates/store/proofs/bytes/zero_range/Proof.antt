@@ -5,30 +5,6 @@ use borrow.Author.Needs.{needs}
 use Rattle.store.proofs.bytes.zero_range.Statement.{statement}
 use Rattle.store.proofs.bytes.zero_range.Tie as tie
 
-fresh-block-requires : tie.Need-fresh-block-requires
-fresh-block-requires c κs = search needs
-
-block-start-requires : tie.Need-block-start-requires
-block-start-requires c κs = search needs
-
-add-end : tie.Need-add-end
-add-end c = search needs
-
-sub-put-zeros : tie.Need-sub-put-zeros
-sub-put-zeros c = search needs
-
-part-put-zeros-start : tie.Need-part-put-zeros-start
-part-put-zeros-start c = search needs
-
-part-put-zeros-end : tie.Need-part-put-zeros-end
-part-put-zeros-end c = search needs
-
-put-zeros-requires : tie.Need-put-zeros-requires
-put-zeros-requires c κs = search needs
-
-same-length : tie.Need-same-length
-same-length c = search needs
-
 returns : tie.Need-returns
 returns c =
     let w = c .before .before in
@@ -41,12 +17,5 @@ pub zero-range-spec : {M : Type 1} → statement M
 zero-range-spec =
     tie.close
     (tie.spec
-    fresh-block-requires
-    block-start-requires
-    add-end
-    sub-put-zeros
-    part-put-zeros-start
-    part-put-zeros-end
-    put-zeros-requires
-    same-length
-    returns)
+    (λ c κs. search needs) (λ c κs. search needs) (λ c. search needs) (λ c. search needs) (λ c. search needs)
+    (λ c. search needs) (λ c κs. search needs) (λ c. search needs) returns)

@@ -19,8 +19,8 @@ div-result-2 c = let s = c .before .before .before in omega (arith, slots-room _
 sub-result-2 : tie.Need-sub-result-2
 sub-result-2 c = let s = c .before .before .before in omega (arith, slots-room _ _ _ (s .pre .0) (s .pre .1 .0) (s .pre .1 .1))
 
-returns : tie.Need-returns
-returns c = search needs
-
 pub slot-count-spec : {M : Type 1} → statement M
-slot-count-spec = tie.close (tie.spec sub-result add-result div-result div-result-2 sub-result-2 returns)
+slot-count-spec =
+    tie.close
+    (tie.spec
+    sub-result add-result div-result div-result-2 sub-result-2 (λ c. search needs))

@@ -6,12 +6,6 @@ use Rattle.tables.proofs.TallyLaws.{count-most, tallied-used, tallied-owed}
 use Rattle.store.proofs.plan.judge.Statement.{statement}
 use Rattle.store.proofs.plan.judge.Tie as tie
 
-used-blocks-requires : tie.Need-used-blocks-requires
-used-blocks-requires c κs = search needs
-
-owed-slots-requires : tie.Need-owed-slots-requires
-owed-slots-requires c κs = search needs
-
 add-result : tie.Need-add-result
 add-result c =
     let s = c .before .before .before .before in
@@ -32,4 +26,7 @@ returns c =
     rw (c .before .used-blocks .ensures, c .owed-slots .ensures, tallied-used _ _ (k .table) (k .pool), tallied-owed _ _ (k .table) (k .pool))
 
 pub judge-spec : {M : Type 1} → statement M
-judge-spec = tie.close (tie.spec used-blocks-requires owed-slots-requires add-result returns)
+judge-spec =
+    tie.close
+    (tie.spec
+    (λ c κs. search needs) (λ c κs. search needs) add-result returns)

@@ -5,31 +5,16 @@ use Rattle.store.proofs.OwnLaws.{free-low, slot-kept, slot-stopped, slo
 use Rattle.store.proofs.plan.own_slot.Statement.{statement}
 use Rattle.store.proofs.plan.own_slot.Tie as tie
 
-mul-w : tie.Need-mul-w
-mul-w c = search needs
-
-slice-read-w : tie.Need-slice-read-w
-slice-read-w c = search needs
-
 takes-block-requires : tie.Need-takes-block-requires
 takes-block-requires c κs =
     let s = c .before .before .before .before in
     s .pre .0 .pool (s .args .i)
-
-same-length : tie.Need-same-length
-same-length c = search needs
 
 returns : tie.Need-returns
 returns c =
     let k = c .before in
     let s = k .before .before .before .before .before in
     slot-kept _ _ (s .pre .0) (s .args .i) (sym (k .takes-block .ensures) ∙ not-true _ (c .if1 .taken))
-
-lowest-free-requires : tie.Need-lowest-free-requires
-lowest-free-requires c κs = search needs
-
-same-length-2 : tie.Need-same-length-2
-same-length-2 c = search needs
 
 returns-2 : tie.Need-returns-2
 returns-2 c =
@@ -45,15 +30,6 @@ taken-word-requires c κs =
     let f = b .before in
     let s = f .before .before .before .before .before .before .before .before in
     rw (f .lowest-free .ensures) (free-low _ _ (s .pre .0) (rw (f .lowest-free .ensures) at (b .if2 .left)))
-
-set-word-requires : tie.Need-set-word-requires
-set-word-requires c κs = search needs
-
-same-length-3 : tie.Need-same-length-3
-same-length-3 c = search needs
-
-same-length-4 : tie.Need-same-length-4
-same-length-4 c = search needs
 
 returns-3 : tie.Need-returns-3
 returns-3 c =
@@ -71,16 +47,6 @@ pub own-slot-spec : {M : Type 1} → statement M
 own-slot-spec =
     tie.close
     (tie.spec
-    mul-w
-    slice-read-w
-    takes-block-requires
-    same-length
-    returns
-    lowest-free-requires
-    same-length-2
-    returns-2
-    taken-word-requires
-    set-word-requires
-    same-length-3
-    same-length-4
-    returns-3)
+    (λ c. search needs) (λ c. search needs) takes-block-requires (λ c. search needs) returns
+    (λ c κs. search needs) (λ c. search needs) returns-2
+    taken-word-requires (λ c κs. search needs) (λ c. search needs) (λ c. search needs) returns-3)

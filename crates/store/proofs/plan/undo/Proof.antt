@@ -33,9 +33,6 @@ loop-holds c =
 add-set-word : tie.Need-add-set-word Inv-loop μ-loop
 add-set-word c = omega arith
 
-mul-set-word : tie.Need-mul-set-word Inv-loop μ-loop
-mul-set-word c = search needs
-
 shared-slice-read-set-word : tie.Need-shared-slice-read-set-word Inv-loop μ-loop
 shared-slice-read-set-word c = omega arith
 
@@ -80,16 +77,6 @@ pub undo-spec : {M : Type 1} → statement M
 undo-spec =
     tie.close
     (tie.spec
-    Inv-loop
-    μ-loop
-    loop-holds
-    add-set-word
-    mul-set-word
-    shared-slice-read-set-word
-    set-word-requires
-    add-k
-    loop-less
-    loop-again
-    same-length
-    same-length-2
-    returns)
+    Inv-loop μ-loop loop-holds add-set-word (λ c. search needs) shared-slice-read-set-word set-word-requires add-k
+    loop-less loop-again
+    same-length same-length-2 returns)

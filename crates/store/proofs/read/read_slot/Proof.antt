@@ -8,15 +8,6 @@ use Rattle.store.proofs.read.read_slot.Tie as tie
 word-at-requires : tie.Need-word-at-requires
 word-at-requires c κs = let s = c .before .before .before in placed (s .pre .0) _ (omega (arith, s .pre .1 .some))
 
-cast-k : tie.Need-cast-k
-cast-k c = search needs
-
-zero-requires : tie.Need-zero-requires
-zero-requires c κs = search needs
-
-same-length : tie.Need-same-length
-same-length c = search needs
-
 returns : tie.Need-returns
 returns c =
     let z = c .before .before in
@@ -24,9 +15,6 @@ returns c =
     let k = i .before in
     let s = k .before .before .before .before in
     λ sizes. z .zero .ensures ∙ read-hole _ _ _ _ _ _ (s .pre .0) (s .pre .1) (k .word-at .ensures) (i .if1 .taken)
-
-sub-start : tie.Need-sub-start
-sub-start c = search needs
 
 mul-start : tie.Need-mul-start
 mul-start c =
@@ -52,24 +40,12 @@ add-end c =
     let s = k .before .before .before .before in
     omega (arith, block-inside _ _ _ _ _ _ _ (s .pre .0) (s .pre .1) (k .word-at .ensures) (i .if1 .left))
 
-sub-copy : tie.Need-sub-copy
-sub-copy c = search needs
-
-part-copy-start : tie.Need-part-copy-start
-part-copy-start c = search needs
-
 part-copy-end : tie.Need-part-copy-end
 part-copy-end c =
     let i = c .before .before .before in
     let k = i .before in
     let s = k .before .before .before .before in
     block-inside _ _ _ _ _ _ _ (s .pre .0) (s .pre .1) (k .word-at .ensures) (i .if1 .left)
-
-copy-requires : tie.Need-copy-requires
-copy-requires c κs = search needs
-
-same-length-2 : tie.Need-same-length-2
-same-length-2 c = search needs
 
 returns-2 : tie.Need-returns-2
 returns-2 c =
@@ -83,19 +59,6 @@ pub read-slot-spec : {M : Type 1} → statement M
 read-slot-spec =
     tie.close
     (tie.spec
-    word-at-requires
-    cast-k
-    zero-requires
-    same-length
-    returns
-    sub-start
-    mul-start
-    rem-start
-    add-start
-    add-end
-    sub-copy
-    part-copy-start
-    part-copy-end
-    copy-requires
-    same-length-2
-    returns-2)
+    word-at-requires (λ c. search needs) (λ c κs. search needs) (λ c. search needs) returns
+    (λ c. search needs) mul-start rem-start add-start add-end (λ c. search needs) (λ c. search needs)
+    part-copy-end (λ c κs. search needs) (λ c. search needs) returns-2)

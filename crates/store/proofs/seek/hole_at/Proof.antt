@@ -4,11 +4,11 @@ use Rattle.rules.specs.Store.{isHole}
 use Rattle.store.proofs.seek.hole_at.Statement.{statement}
 use Rattle.store.proofs.seek.hole_at.Tie as tie
 
-word-at-requires : tie.Need-word-at-requires
-word-at-requires c κs = search needs
-
 returns : tie.Need-returns
 returns c = ap isHole (c .word-at .ensures)
 
 pub hole-at-spec : {M : Type 1} → statement M
-hole-at-spec = tie.close (tie.spec word-at-requires returns)
+hole-at-spec =
+    tie.close
+    (tie.spec
+    (λ c κs. search needs) returns)

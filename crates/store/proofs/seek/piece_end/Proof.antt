@@ -3,12 +3,6 @@ use Rattle.store.proofs.ScanLaws.{piece-ends}
 use Rattle.store.proofs.seek.piece_end.Statement.{statement}
 use Rattle.store.proofs.seek.piece_end.Tie as tie
 
-hole-at-requires : tie.Need-hole-at-requires
-hole-at-requires c κs = search needs
-
-seek-file-requires : tie.Need-seek-file-requires
-seek-file-requires c κs = search needs
-
 returns : tie.Need-returns
 returns c =
     let k = c .before in
@@ -16,4 +10,7 @@ returns c =
     piece-ends _ _ _ _ _ _ (s .pre .0) (s .pre .1) (rw (k .hole-at .ensures) at (c .seek-file .ensures))
 
 pub piece-end-spec : {M : Type 1} → statement M
-piece-end-spec = tie.close (tie.spec hole-at-requires seek-file-requires returns)
+piece-end-spec =
+    tie.close
+    (tie.spec
+    (λ c κs. search needs) (λ c κs. search needs) returns)

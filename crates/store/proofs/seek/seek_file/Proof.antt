@@ -26,9 +26,6 @@ abbrev μ-loop : tie.MeasureT-loop
 loop-holds : tie.Need-loop-holds Inv-loop μ-loop
 loop-holds c = λ sizes m e. refl
 
-hole-at-requires : tie.Need-hole-at-requires Inv-loop μ-loop
-hole-at-requires c κs = search needs
-
 returns : tie.Need-returns Inv-loop μ-loop
 returns c =
     let k = c .before in
@@ -71,14 +68,6 @@ pub seek-file-spec : {M : Type 1} → statement M
 seek-file-spec =
     tie.close
     (tie.spec
-    Inv-loop
-    μ-loop
-    loop-holds
-    hole-at-requires
-    returns
-    div-i
-    add-i
-    mul-i
-    loop-less
-    loop-again
+    Inv-loop μ-loop loop-holds (λ c κs. search needs) returns
+    div-i add-i mul-i loop-less loop-again
     returns-2)

@@ -19,10 +19,8 @@ mul-result-2 c = omega (arith, placed-index _ _ _ _ (c .before .before .pre))
 shared-slice-read-result : tie.Need-shared-slice-read-result
 shared-slice-read-result c = placed-index _ _ _ _ (c .before .before .before .pre) .0
 
-returns : tie.Need-returns
-returns c = search needs
-
 pub word-at-spec : {M : Type 1} → statement M
 word-at-spec =
     tie.close
-    (tie.spec mul-result div-result add-result mul-result-2 shared-slice-read-result returns)
+    (tie.spec
+    mul-result div-result add-result mul-result-2 shared-slice-read-result (λ c. search needs))

@@ -27,9 +27,6 @@ part-zero-words-start c = omega arith
 part-zero-words-end : tie.Need-part-zero-words-end
 part-zero-words-end c = omega arith
 
-zero-words-requires : tie.Need-zero-words-requires
-zero-words-requires c κs = search needs
-
 returns : tie.Need-returns
 returns c =
     let s = c .before .before .before .before .before in
@@ -39,12 +36,5 @@ pub slots-zero-spec : {M : Type 1} → statement M
 slots-zero-spec =
     tie.close
     (tie.spec
-    mul-at
-    add-start
-    add-end
-    mul-zero-words
-    sub-zero-words
-    part-zero-words-start
-    part-zero-words-end
-    zero-words-requires
-    returns)
+    mul-at add-start add-end mul-zero-words sub-zero-words part-zero-words-start part-zero-words-end
+    (λ c κs. search needs) returns)

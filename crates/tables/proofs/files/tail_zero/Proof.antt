@@ -8,9 +8,6 @@ use Rattle.tables.proofs.FileTests.{block-end, hole-tail, block-tail}
 use Rattle.tables.proofs.files.tail_zero.Statement.{statement}
 use Rattle.tables.proofs.files.tail_zero.Tie as tie
 
-cast-b : tie.Need-cast-b
-cast-b c = search needs
-
 returns : tie.Need-returns
 returns c = let a = c .before .before .args in hole-tail (geometryOf (a .g)) (a .mem .now) (a .w) (a .from) (c .if1 .taken)
 
@@ -39,9 +36,6 @@ part-zero-bytes-start c = omega arith
 part-zero-bytes-end : tie.Need-part-zero-bytes-end
 part-zero-bytes-end c = omega (arith, inside (c .before))
 
-zero-bytes-requires : tie.Need-zero-bytes-requires
-zero-bytes-requires c κs = search needs
-
 returns-2 : tie.Need-returns-2
 returns-2 c =
     let i = c .before .before .before .before in
@@ -52,14 +46,6 @@ pub tail-zero-spec : {M : Type 1} → statement M
 tail-zero-spec =
     tie.close
     (tie.spec
-    cast-b
-    returns
-    sub-at
-    mul-at
-    add-start
-    add-end
-    sub-zero-bytes
-    part-zero-bytes-start
-    part-zero-bytes-end
-    zero-bytes-requires
-    returns-2)
+    (λ c. search needs) returns
+    sub-at mul-at add-start add-end sub-zero-bytes part-zero-bytes-start part-zero-bytes-end
+    (λ c κs. search needs) returns-2)

@@ -24,9 +24,6 @@ slice-write-dst c = omega arith
 add-i : tie.Need-add-i Inv-loop μ-loop
 add-i c = omega arith
 
-loop-less : tie.Need-loop-less Inv-loop μ-loop
-loop-less c = search needs
-
 loop-again : tie.Need-loop-again Inv-loop μ-loop
 loop-again c = zeroing-more (c .before .loop .inv) (c .loop-test .taken)
 
@@ -40,13 +37,5 @@ pub zero-slots-spec : {M : Type 1} → statement M
 zero-slots-spec =
     tie.close
     (tie.spec
-    Inv-loop
-    μ-loop
-    loop-holds
-    mul-dst
-    slice-write-dst
-    add-i
-    loop-less
-    loop-again
-    same-length
-    returns)
+    Inv-loop μ-loop loop-holds mul-dst slice-write-dst add-i (λ c. search needs) loop-again
+    same-length returns)

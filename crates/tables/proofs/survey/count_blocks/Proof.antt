@@ -5,9 +5,6 @@ use borrow.Author.Needs.{needs}
 use Rattle.tables.proofs.survey.count_blocks.Statement.{statement}
 use Rattle.tables.proofs.survey.count_blocks.Tie as tie
 
-good-requires : tie.Need-good-requires
-good-requires c κs = search needs
-
 returns : tie.Need-returns
 returns c = count-refused-1 _ _ (sym (c .before .good2 .ensures) ∙ not-true _ (c .if1 .taken))
 
@@ -29,16 +26,10 @@ survey-shaped-requires c κs =
       lengths = sym (l .good-lengths .ensures) ∙ not-false _ (c .if2 .left);
     }
 
-returns-3 : tie.Need-returns-3
-returns-3 c = search needs
-
 pub count-blocks-spec : {M : Type 1} → statement M
 count-blocks-spec =
     tie.close
     (tie.spec
-    good-requires
-    returns
-    good-lengths-requires
-    returns-2
-    survey-shaped-requires
-    returns-3)
+    (λ c κs. search needs) returns
+    good-lengths-requires returns-2
+    survey-shaped-requires (λ c. search needs))

@@ -3,14 +3,11 @@ use borrow.Author.Needs.{needs}
 use Rattle.tables.proofs.survey.survey_shaped.Statement.{statement}
 use Rattle.tables.proofs.survey.survey_shaped.Tie as tie
 
-slice-aggregate-survey-in : tie.Need-slice-aggregate-survey-in
-slice-aggregate-survey-in c = search needs
-
 survey-in-requires : tie.Need-survey-in-requires
 survey-in-requires c κs = table-zeros _ _ (c .before .before .before .before .pre)
 
-returns : tie.Need-returns
-returns c = search needs
-
 pub survey-shaped-spec : {M : Type 1} → statement M
-survey-shaped-spec = tie.close (tie.spec slice-aggregate-survey-in survey-in-requires returns)
+survey-shaped-spec =
+    tie.close
+    (tie.spec
+    (λ c. search needs) survey-in-requires (λ c. search needs))

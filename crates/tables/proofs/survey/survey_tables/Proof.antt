@@ -4,9 +4,6 @@ use borrow.Author.Needs.{needs}
 use Rattle.tables.proofs.survey.survey_tables.Statement.{statement}
 use Rattle.tables.proofs.survey.survey_tables.Tie as tie
 
-words-formed-requires : tie.Need-words-formed-requires
-words-formed-requires c κs = search needs
-
 returns : tie.Need-returns
 returns c =
     let k = c .before in
@@ -34,9 +31,6 @@ tally-requires c κs =
     let s = k .before .before .before .before .before in
     untallied _ _ _ (s .pre) _ (k .words-formed .ensures) (t .if1 .left)
 
-used-blocks-requires : tie.Need-used-blocks-requires
-used-blocks-requires c κs = search needs
-
 owed-slots-requires : tie.Need-owed-slots-requires
 owed-slots-requires c κs =
     let y = c .before .before .before .before .before in
@@ -62,9 +56,6 @@ add-if3 c =
           (u .used-blocks .ensures) (c .owed-slots .ensures),
     )
 
-same-length : tie.Need-same-length
-same-length c = search needs
-
 returns-3 : tie.Need-returns-3
 returns-3 c =
     let o = c .before .before in
@@ -77,9 +68,6 @@ returns-3 c =
     let s = k .before .before .before .before .before in
     survey-room _ _ _ (s .pre) _ (k .words-formed .ensures) (t .if1 .left) _ (f .files-sound .ensures) (i .if2 .left) _ (y .tally .kept .1 .0) (y .tally .ensures) _ _
     (u .used-blocks .ensures) (o .owed-slots .ensures) (c .if3 .taken)
-
-same-length-2 : tie.Need-same-length-2
-same-length-2 c = search needs
 
 returns-4 : tie.Need-returns-4
 returns-4 c =
@@ -98,15 +86,7 @@ pub survey-tables-spec : {M : Type 1} → statement M
 survey-tables-spec =
     tie.close
     (tie.spec
-    words-formed-requires
-    returns
-    files-sound-requires
-    returns-2
-    tally-requires
-    used-blocks-requires
-    owed-slots-requires
-    add-if3
-    same-length
-    returns-3
-    same-length-2
-    returns-4)
+    (λ c κs. search needs) returns
+    files-sound-requires returns-2
+    tally-requires (λ c κs. search needs) owed-slots-requires add-if3 (λ c. search needs) returns-3
+    (λ c. search needs) returns-4)

@@ -20,9 +20,6 @@ abbrev μ-loop : tie.MeasureT-loop
 loop-holds : tie.Need-loop-holds Inv-loop μ-loop
 loop-holds c = omega arith
 
-mul-owes-block : tie.Need-mul-owes-block Inv-loop μ-loop
-mul-owes-block c = search needs
-
 shared-slice-read-owes-block : tie.Need-shared-slice-read-owes-block Inv-loop μ-loop
 shared-slice-read-owes-block c = omega arith
 
@@ -61,14 +58,6 @@ pub owed-slots-spec : {M : Type 1} → statement M
 owed-slots-spec =
     tie.close
     (tie.spec
-    Inv-loop
-    μ-loop
-    loop-holds
-    mul-owes-block
-    shared-slice-read-owes-block
-    owes-block-requires
-    add-n
-    add-i
-    loop-less
-    loop-again
+    Inv-loop μ-loop loop-holds (λ c. search needs) shared-slice-read-owes-block owes-block-requires add-n add-i
+    loop-less loop-again
     returns)

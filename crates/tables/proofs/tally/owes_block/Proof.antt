@@ -10,9 +10,6 @@ use Rattle.tables.proofs.tally.owes_block.Tie as tie
 returns : tie.Need-returns
 returns c = rw (ne-eqb (c .before .before .args .w % 2) 1 (λ e. omega arith), and-false)
 
-takes-block-requires : tie.Need-takes-block-requires
-takes-block-requires c κs = search needs
-
 returns-2 : tie.Need-returns-2
 returns-2 c =
     let w = c .before .before .before .before .args .w in
@@ -22,4 +19,9 @@ returns-3 : tie.Need-returns-3
 returns-3 c = rw (sym (c .before .takes-block .ensures) ∙ c .if2 .left)
 
 pub owes-block-spec : {M : Type 1} → statement M
-owes-block-spec = tie.close (tie.spec returns takes-block-requires returns-2 returns-3)
+owes-block-spec =
+    tie.close
+    (tie.spec
+    returns
+    (λ c κs. search needs) returns-2
+    returns-3)

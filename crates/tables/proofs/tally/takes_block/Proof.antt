@@ -5,20 +5,8 @@ use borrow.Author.Needs.{needs}
 use Rattle.tables.proofs.tally.takes_block.Statement.{statement}
 use Rattle.tables.proofs.tally.takes_block.Tie as tie
 
-cast-k : tie.Need-cast-k
-cast-k c = search needs
-
 returns : tie.Need-returns
 returns c = rw (eq-eqb (c .before .args .w / 2) 0 (c .if1 .taken))
-
-sub-result : tie.Need-sub-result
-sub-result c = search needs
-
-mul-result : tie.Need-mul-result
-mul-result c = search needs
-
-shared-slice-read-result : tie.Need-shared-slice-read-result
-shared-slice-read-result c = search needs
 
 returns-2 : tie.Need-returns-2
 returns-2 c =
@@ -28,4 +16,7 @@ returns-2 c =
 
 pub takes-block-spec : {M : Type 1} → statement M
 takes-block-spec =
-    tie.close (tie.spec cast-k returns sub-result mul-result shared-slice-read-result returns-2)
+    tie.close
+    (tie.spec
+    (λ c. search needs) returns
+    (λ c. search needs) (λ c. search needs) (λ c. search needs) returns-2)

@@ -22,9 +22,6 @@ loop-holds c =
     let s = c .before .before in
     (omega arith, (refl, λ b h. omega (arith, ap (λ (l : List ℕ). getD l b 0) (s .pre .zeros) ∙ getD-replicate _ b 0 0 h)))
 
-mul-note : tie.Need-mul-note Inv-loop μ-loop
-mul-note c = search needs
-
 shared-slice-read-note : tie.Need-shared-slice-read-note Inv-loop μ-loop
 shared-slice-read-note c = omega arith
 
@@ -67,14 +64,5 @@ pub tally-spec : {M : Type 1} → statement M
 tally-spec =
     tie.close
     (tie.spec
-    Inv-loop
-    μ-loop
-    loop-holds
-    mul-note
-    shared-slice-read-note
-    note-requires
-    add-i
-    loop-less
-    loop-again
-    same-length
-    returns)
+    Inv-loop μ-loop loop-holds (λ c. search needs) shared-slice-read-note note-requires add-i loop-less loop-again
+    same-length returns)

@@ -20,14 +20,8 @@ abbrev μ-loop : tie.MeasureT-loop
 loop-holds : tie.Need-loop-holds Inv-loop μ-loop
 loop-holds c = omega arith
 
-mul-held : tie.Need-mul-held Inv-loop μ-loop
-mul-held c = search needs
-
 shared-slice-read-held : tie.Need-shared-slice-read-held Inv-loop μ-loop
 shared-slice-read-held c = omega arith
-
-held-requires : tie.Need-held-requires Inv-loop μ-loop
-held-requires c κs = search needs
 
 add-n : tie.Need-add-n Inv-loop μ-loop
 add-n c =
@@ -56,14 +50,6 @@ pub used-blocks-spec : {M : Type 1} → statement M
 used-blocks-spec =
     tie.close
     (tie.spec
-    Inv-loop
-    μ-loop
-    loop-holds
-    mul-held
-    shared-slice-read-held
-    held-requires
-    add-n
-    add-b
-    loop-less
-    loop-again
+    Inv-loop μ-loop loop-holds (λ c. search needs) shared-slice-read-held (λ c κs. search needs) add-n add-b
+    loop-less loop-again
     returns)

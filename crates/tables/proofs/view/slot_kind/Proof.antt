@@ -15,9 +15,6 @@ room c =
     let k = slot-known _ _ _ _ _ (sym (c .before .before .slot-refusal .ensures) ∙ c .before .if1 .left) in
     (slot-room _ _ _ _ _ k, k .slot)
 
-slot-refusal-requires : tie.Need-slot-refusal-requires
-slot-refusal-requires c κs = search needs
-
 returns : tie.Need-returns
 returns c = kind-refused _ _ _ _ _ _ (c .if1 .taken) (c .before .slot-refusal .ensures)
 
@@ -39,4 +36,6 @@ returns-2 c = let i = c .before .before in kind-is _ _ _ _ _ (sym (i .if1 .left)
 pub slot-kind-spec : {M : Type 1} → statement M
 slot-kind-spec =
     tie.close
-    (tie.spec slot-refusal-requires returns mul-w add-w mul-w-2 shared-slice-read-w returns-2)
+    (tie.spec
+    (λ c κs. search needs) returns
+    mul-w add-w mul-w-2 shared-slice-read-w returns-2)

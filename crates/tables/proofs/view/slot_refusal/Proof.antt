@@ -14,9 +14,6 @@ past-two c =
     let k = c .before .before .before in
     number-shaped _ _ (λ q. c .before .before .if1 .left (k .soundness .ensures ∙ q)) (λ q. c .before .if2 .left (k .soundness .ensures ∙ q))
 
-soundness-requires : tie.Need-soundness-requires
-soundness-requires c κs = search needs
-
 returns : tie.Need-returns
 returns c = sym (slot-geometry _ _ _ _ _ (number-1 _ _ (sym (c .before .soundness .ensures) ∙ c .if1 .taken)))
 
@@ -34,9 +31,6 @@ returns-4 c =
     let p = c .before .before in
     let k = p .before .before .before in
     sym (slot-unsound _ _ _ _ _ (past-two p) (c .before .if3 .left) (number-unsound _ _ (past-two p) (λ q. c .if4 .taken (k .soundness .ensures ∙ q))))
-
-zero-bytes-requires : tie.Need-zero-bytes-requires
-zero-bytes-requires c κs = search needs
 
 returns-5 : tie.Need-returns-5
 returns-5 c =
@@ -79,13 +73,11 @@ pub slot-refusal-spec : {M : Type 1} → statement M
 slot-refusal-spec =
     tie.close
     (tie.spec
-    soundness-requires
-    returns
+    (λ c κs. search needs) returns
     returns-2
     returns-3
     returns-4
-    zero-bytes-requires
-    returns-5
+    (λ c κs. search needs) returns-5
     returns-6
     returns-7
     returns-8)

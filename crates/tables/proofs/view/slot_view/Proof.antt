@@ -16,18 +16,6 @@ room c =
     let k = slot-known _ _ _ _ _ (sym (c .before .before .slot-refusal .ensures) ∙ c .before .if1 .left) in
     (slot-room _ _ _ _ _ k, k .slot)
 
-slot-refusal-requires : tie.Need-slot-refusal-requires
-slot-refusal-requires c κs = search needs
-
-sub-result : tie.Need-sub-result
-sub-result c = search needs
-
-part-result-start : tie.Need-part-result-start
-part-result-start c = search needs
-
-part-result-end : tie.Need-part-result-end
-part-result-end c = search needs
-
 returns : tie.Need-returns
 returns c = let k = c .before .before in sym (view-refused _ _ _ _ _ (λ q. c .before .if1 .taken (k .slot-refusal .ensures ∙ q)))
 
@@ -51,9 +39,6 @@ returns-2 c =
     let i = c .before .before .before in
     sym (view-hole _ _ _ _ _ (sym (i .before .slot-refusal .ensures) ∙ i .if1 .left) (c .if2 .taken))
 
-sub-at : tie.Need-sub-at
-sub-at c = search needs
-
 mul-at : tie.Need-mul-at
 mul-at c =
     let k = c .before .before .before in
@@ -71,12 +56,6 @@ add-end c =
     let r = room k in
     let w = getD (a .words .now) (a .f * a .g .slots + a .k) 0 / 2 in
     omega (arith, s .good, r .0 .block (a .k), block-end w (a .g .«block_size») (c .before .before .if2 .left))
-
-sub-result-2 : tie.Need-sub-result-2
-sub-result-2 c = search needs
-
-part-result-start-2 : tie.Need-part-result-start-2
-part-result-start-2 c = search needs
 
 part-result-end-2 : tie.Need-part-result-end-2
 part-result-end-2 c =
@@ -96,21 +75,6 @@ pub slot-view-spec : {M : Type 1} → statement M
 slot-view-spec =
     tie.close
     (tie.spec
-    slot-refusal-requires
-    sub-result
-    part-result-start
-    part-result-end
-    returns
-    mul-b
-    add-b
-    mul-b-2
-    shared-slice-read-b
-    cast-b
-    returns-2
-    sub-at
-    mul-at
-    add-end
-    sub-result-2
-    part-result-start-2
-    part-result-end-2
-    returns-3)
+    (λ c κs. search needs) (λ c. search needs) (λ c. search needs) (λ c. search needs) returns
+    mul-b add-b mul-b-2 shared-slice-read-b cast-b returns-2
+    (λ c. search needs) mul-at add-end (λ c. search needs) (λ c. search needs) part-result-end-2 returns-3)

@@ -3,12 +3,6 @@ use borrow.Author.Needs.{needs}
 use Rattle.tables.proofs.words.set_word.Statement.{statement}
 use Rattle.tables.proofs.words.set_word.Tie as tie
 
-mul-forget : tie.Need-mul-forget
-mul-forget c = search needs
-
-slice-read-forget : tie.Need-slice-read-forget
-slice-read-forget c = search needs
-
 forget-requires : tie.Need-forget-requires
 forget-requires c κs =
     let s = c .before .before .before .before in
@@ -19,18 +13,6 @@ note-requires c κs =
     let k = c .before .before .before in
     let s = k .before .before .before .before .before in
     (rw (k .forget .kept .0) (s .pre .1 .1), rw (k .forget .ensures) (few-holders _ _ (s .pre .0) (s .args .i) (s .pre .1 .0)))
-
-mul-words : tie.Need-mul-words
-mul-words c = search needs
-
-slice-write-words : tie.Need-slice-write-words
-slice-write-words c = search needs
-
-same-length : tie.Need-same-length
-same-length c = search needs
-
-same-length-2 : tie.Need-same-length-2
-same-length-2 c = search needs
 
 returns : tie.Need-returns
 returns c =
@@ -43,12 +25,5 @@ pub set-word-spec : {M : Type 1} → statement M
 set-word-spec =
     tie.close
     (tie.spec
-    mul-forget
-    slice-read-forget
-    forget-requires
-    note-requires
-    mul-words
-    slice-write-words
-    same-length
-    same-length-2
-    returns)
+    (λ c. search needs) (λ c. search needs) forget-requires note-requires (λ c. search needs) (λ c. search needs)
+    (λ c. search needs) (λ c. search needs) returns)

@@ -41,9 +41,6 @@ returns-6 c =
     let s = c .before .before .before .before .before .before .before .before .before .before .before .before .args .self in
     rw (lt-ltb 0 (s .files) (omega arith), le-leb (s .files) 64 (omega arith), lt-ltb 0 (s .slots) (omega arith), le-leb (s .slots) 1024 (omega arith), lt-ltb 0 (s .blocks) (omega arith), lt-leb (s .blocks) 65536 (omega arith))
 
-block-size-good-requires : tie.Need-block-size-good-requires
-block-size-good-requires c κs = search needs
-
 returns-7 : tie.Need-returns-7
 unfolding goodGeometry
 returns-7 c =
@@ -60,5 +57,4 @@ good-spec =
     returns-4
     returns-5
     returns-6
-    block-size-good-requires
-    returns-7)
+    (λ c κs. search needs) returns-7)

@@ -1,0 +1,19 @@
+-- Fields written one after the other.
+use Prim.Native.Nat.{ℕ, _+_, _≤_}
+use mathlib.Core.Path.{_≡_, ap, _∙_}
+use mathlib.Core.List.{List, _++_}
+use native.Mathlib.Omega.{arith}
+use lib.ListN.{length}
+use Rattle.xdr.specs.Bytes.{Written}
+use Rattle.xdr.proofs.BytesLaws.{length-splice, written-then}
+
+pub written-sized : {bs : List ℕ} {n m at q : ℕ} {x y : List ℕ} → n ≡ m → Written bs n at x y q → Written bs m at x y q
+written-sized {at = at} e w = record { bytes = w .bytes; size = w .size ∙ e; place = w .place ∙ ap (λ (k : ℕ). at + k) e }
+
+-- room for both: the second is told its own
+pub written-more : {a b : List ℕ} {n m at p q : ℕ} {x y z : List ℕ} → at + (n + m) ≤ length x → Written a n at x y p
+    → (p + m ≤ length y → Written b m p y z q) → Written (a ++ b) (n + m) at x z q
+written-more {a} {b} {n} {m} {at} {p} {q} {x} {y} {z} h f g =
+    let s : length a ≡ n = f .size in
+    let l : length y ≡ length x = ap length (f .bytes) ∙ length-splice x at a (omega arith) in
+    written-then (omega arith) f (g (omega (arith, f .place)))

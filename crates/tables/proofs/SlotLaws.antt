@@ -1,10 +1,10 @@
 -- The ways out of the slot's two calls.
 use Prim.Native.Nat.{_+_, _-_, ℕ, _*_, _/_, _≤_, _<_}
-use mathlib.Core.Path.{_≡_, refl, sym, _∙_}
+use mathlib.Core.Path.{_≡_, refl, sym, ap, _∙_}
 use mathlib.Core.Bool.{Bool, true, false, cond, _&&_, not, true≢false}
 use mathlib.Core.List.{List, []}
 use mathlib.Core.Logic.{_≢_}
-use native.Mathlib.Nat.{add-sub-cancel-left}
+use native.Mathlib.Nat.{add-sub-cancel-left, zero-add}
 use native.Mathlib.Numerals.{sub-one}
 use native.Mathlib.Omega.{arith}
 use lib.ListN.{length, getD, take, drop}
@@ -12,8 +12,10 @@ use lib.Dec.{ltb, eqb}
 use borrow.Author.Tests.{lt-ltb, le-ltb, eq-eqb, ne-eqb, ltb-true, eqb-true}
 use Rattle.rules.specs.Lists.{allTo}
 use Rattle.rules.specs.Store.{Geometry, goodGeometry, Store, goodLengths, isHole, wordOf, sound}
-use Rattle.rules.specs.Calls.{storeRefusal, slotRefusals, slotRefusal, slotView, slotIsHole, KindPromise}
+use Rattle.rules.specs.Calls.{storeRefusal, slotRefusals, slotRefusal, slotView, slotIsHole, slotStart, KindPromise}
+use Rattle.tables.specs.Lent.{Lent}
 use Rattle.tables.specs.Tables.{Shaped}
+use Rattle.tables.specs.View.{placeOf, ViewPromise}
 use Rattle.rules.proofs.BoolLaws.{and-left, and-right, not-is}
 use Rattle.rules.proofs.FirstLaws.{all-clear}
 use Rattle.rules.proofs.SoundLaws.{sound-facts}
@@ -164,16 +166,31 @@ module _ (g : Geometry) (st : Store) (page : List ℕ) (f k : ℕ) where
   unfolding slotIsHole
   kind-is e t h = record { number-is = e; hole-is = rw (← e) h }
 
-  pub view-refused : slotRefusal g st page f k ≢ 0 → slotView g st page f k ≡ []
-  unfolding slotView
-  view-refused d = rw (ne-eqb (slotRefusal g st page f k) 0 d)
+-- ---- the view: a part r of the page, or of the memory
 
-  pub view-hole : slotRefusal g st page f k ≡ 0 → wordOf g (st .words) f k / 2 ≡ 0 → slotView g st page f k ≡ page
-  unfolding slotView
-  view-hole e h = rw (e, h)
+module _ (g : Geometry) (st : Store) (mem page : Lent) (f k : ℕ) where
+  abbrev number : ℕ
+  number = slotRefusal g st (page .now) f k
 
-  -- as the code takes it: from (b - 1) × B on, up to that plus B
-  pub view-block : slotRefusal g st page f k ≡ 0 → (b : ℕ) → b ≡ wordOf g (st .words) f k / 2 → (b ≡ 0 → ⊥)
-      → take ((b - 1) * g .B + g .B - (b - 1) * g .B) (drop ((b - 1) * g .B) (st .mem)) ≡ slotView g st page f k
-  unfolding slotView
-  view-block e b is d = rw (e, ← is, ne-eqb b 0 d, add-sub-cancel-left ((b - 1) * g .B) (g .B), sub-one b)
+  -- a hole, or a refusal: from the page's first byte on
+  page-shown : slotIsHole g st (page .now) f k ≡ true → (r : Lent) → r .now ≡ slotView g st (page .now) f k → r .ptr ≡ placeOf page 0 → ViewPromise g st mem page f k r
+  unfolding slotStart
+  page-shown e r bytes starts = record { bytes-are = bytes; starts = rw e starts }
+
+  pub view-refused : number ≢ 0 → (r : Lent) → r .now ≡ [] → r .ptr ≡ placeOf page 0 → ViewPromise g st mem page f k r
+  unfolding slotView slotIsHole
+  view-refused d r bytes starts = page-shown (rw (ne-eqb number 0 d)) r (rw (ne-eqb number 0 d) bytes) starts
+
+  module _ (e : number ≡ 0) where
+    pub view-hole : wordOf g (st .words) f k / 2 ≡ 0 → ViewPromise g st mem page f k page
+    unfolding slotView slotIsHole
+    view-hole h = page-shown (rw (e, h)) page (rw (e, h)) (ap (λ (n : ℕ). (page .ptr .0, n)) (sym (zero-add (page .ptr .1))))
+
+    -- as the code takes it: from (b - 1) × B on, up to that plus B
+    pub view-block : (b : ℕ) → b ≡ wordOf g (st .words) f k / 2 → (b ≡ 0 → ⊥) → (r : Lent)
+        → r .now ≡ take ((b - 1) * g .B + g .B - (b - 1) * g .B) (drop ((b - 1) * g .B) (st .mem)) → r .ptr ≡ placeOf mem ((b - 1) * g .B) → ViewPromise g st mem page f k r
+    unfolding slotView slotIsHole slotStart
+    view-block b is d r bytes starts = record {
+      bytes-are = rw (e, ← is, ne-eqb b 0 d, ← sub-one b) (bytes ∙ rw (add-sub-cancel-left ((b - 1) * g .B) (g .B)));
+      starts = rw (e, ← is, ne-eqb b 0 d, ← sub-one b) starts;
+    }

@@ -1,7 +1,8 @@
 // One slot shown without copying: its part of the block memory, or the zero page that the caller lends.
 ghost use mathlib.Core.Path.{_≡_};
 ghost use Rattle.tables.specs.Lent.{geometryOf, before};
-ghost use Rattle.rules.specs.Calls.{slotRefusal, slotView, KindPromise};
+ghost use Rattle.rules.specs.Calls.{slotRefusal, KindPromise};
+ghost use Rattle.tables.specs.View.{ViewPromise};
 use crate::files::zero_bytes;
 use crate::geometry::Geometry;
 use crate::geometry::good_lengths;
@@ -80,7 +81,7 @@ pub fn slot_view<'a>(
     f: usize,
     k: usize,
 ) -> &'a [u8]
-    ensures { λ r. ⌜ now r ≡ slotView (geometryOf g) (before sizes words mem) (now (page .entry)) f k ⌝ }
+    ensures { λ r. ⌜ ViewPromise (geometryOf g) (before sizes words mem) (mem .entry) (page .entry) f k r ⌝ }
 {
     if slot_refusal(g, sizes, words, mem, page, f, k) != 0 {
         return &page[0..0];

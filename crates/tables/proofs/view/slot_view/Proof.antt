@@ -29,7 +29,7 @@ part-result-end : tie.Need-part-result-end
 part-result-end c = search needs
 
 returns : tie.Need-returns
-returns c = let k = c .before .before in sym (view-refused _ _ _ _ _ (λ q. c .before .if1 .taken (k .slot-refusal .ensures ∙ q)))
+returns c = let k = c .before .before in view-refused _ _ _ _ _ _ (λ q. c .before .if1 .taken (k .slot-refusal .ensures ∙ q)) _ refl refl
 
 mul-b : tie.Need-mul-b
 mul-b c = let r = room c in omega (arith, r .0 .slots)
@@ -49,7 +49,7 @@ cast-b c = let a = c .before .before .before .before .before .before .before .be
 returns-2 : tie.Need-returns-2
 returns-2 c =
     let i = c .before .before .before in
-    sym (view-hole _ _ _ _ _ (sym (i .before .slot-refusal .ensures) ∙ i .if1 .left) (c .if2 .taken))
+    view-hole _ _ _ _ _ _ (sym (i .before .slot-refusal .ensures) ∙ i .if1 .left) (c .if2 .taken)
 
 sub-at : tie.Need-sub-at
 sub-at c = search needs
@@ -90,7 +90,7 @@ part-result-end-2 c =
 returns-3 : tie.Need-returns-3
 returns-3 c =
     let k = c .before .before .before .before .before in
-    view-block _ _ _ _ _ (sym (k .before .before .slot-refusal .ensures) ∙ k .before .if1 .left) _ refl (c .before .before .before .if2 .left)
+    view-block _ _ _ _ _ _ (sym (k .before .before .slot-refusal .ensures) ∙ k .before .if1 .left) _ refl (c .before .before .before .if2 .left) _ refl refl
 
 pub slot-view-spec : {M : Type 1} → statement M
 slot-view-spec =

@@ -53,7 +53,8 @@ returns-3 : tie.Need-returns-3 Inv-loop μ-loop
 returns-3 c =
     let k = c .before .before in
     let l = k .before .before .before .before in
-    refused-digit (l .loop .inv) (omega arith) (l .before .before .if1 .left) (sym (k .byte-value .ensures) ∙ ap ofByte (c .enum-told .given .1))
+    let t = l .before in
+    refused-digit (l .loop .inv) (omega arith) (t .before .if1 .left) (t .if2 .left) (sym (k .byte-value .ensures) ∙ ap ofByte (c .enum-told .given .1))
 
 slice-write-out : tie.Need-slice-write-out Inv-loop μ-loop
 slice-write-out c = omega arith

@@ -10,12 +10,13 @@ use native.Mathlib.Omega.{arith}
 use lib.ListN.{length, getD, take, drop}
 use lib.Dec.{ltb, eqb}
 use borrow.Author.Tests.{lt-ltb, le-ltb, eq-eqb, ne-eqb, ltb-true, eqb-true}
+use Rattle.xdr.specs.Part.{placeOf}
 use Rattle.rules.specs.Lists.{allTo}
 use Rattle.rules.specs.Store.{Geometry, goodGeometry, Store, goodLengths, isHole, wordOf, sound}
 use Rattle.rules.specs.Calls.{storeRefusal, slotRefusals, slotRefusal, slotView, slotIsHole, slotStart, KindPromise}
 use Rattle.tables.specs.Lent.{Lent}
 use Rattle.tables.specs.Tables.{Shaped}
-use Rattle.tables.specs.View.{placeOf, PlacePromise, ViewPromise}
+use Rattle.tables.specs.View.{PlacePromise, ViewPromise}
 use Rattle.rules.proofs.BoolLaws.{and-left, and-right, not-is}
 use Rattle.rules.proofs.FirstLaws.{all-clear}
 use Rattle.rules.proofs.SoundLaws.{sound-facts}

@@ -1,15 +1,12 @@
 -- What the calls that show a slot promise: the bytes, and where they lie.
-use Prim.Native.Nat.{ℕ, _+_}
+use Prim.Native.Nat.{ℕ}
 use mathlib.Core.Path.{_≡_}
 use mathlib.Core.Bool.{Bool, cond}
 use mathlib.Core.List.{List}
+use Rattle.xdr.specs.Part.{placeOf}
 use Rattle.rules.specs.Store.{Geometry, Store}
 use Rattle.rules.specs.Calls.{slotRefusal, slotView, slotIsHole, slotStart}
 use Rattle.tables.specs.Lent.{Lent}
-
--- the place of byte n of a lent slice of bytes
-abbrev pub placeOf : Lent → ℕ → ℕ × ℕ
-placeOf s n = (s .ptr .0, n + s .ptr .1)
 
 -- the refusal, whether the part is of the page, and where it starts
 pub record PlacePromise (g : Geometry) (st : Store) (page : List ℕ) (f k number : ℕ) (hole : Bool) (start : ℕ) : Type 0 where

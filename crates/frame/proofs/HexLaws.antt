@@ -8,7 +8,7 @@ use native.Mathlib.Nat.{add-zero}
 use native.Mathlib.Numerals.{add-one}
 use native.Mathlib.Omega.{arith}
 use lib.ListN.{length, getD, set, take, drop, length-set, drop-of-length-le, take-append-drop}
-use lib.Seq.{append-snoc, drop-cons, sets-eq, take-suc-set}
+use lib.Seq.{append-snoc, drop-cons, set-split, sets-eq, take-suc-set}
 use lib.Dec.{leb}
 use borrow.Author.Tests.{le-leb, lt-leb, leb-true, lt-ltb, le-ltb}
 use Rattle.xdr.specs.Bytes.{splice, Written}
@@ -16,7 +16,7 @@ use Rattle.xdr.proofs.BytesLaws.{splice-splice}
 use Rattle.rules.proofs.BoolLaws.{and-right}
 use Rattle.frame.specs.declared.hex.Request.{Request}
 use Rattle.rules.specs.Line.{digitValue, byteOf, byteFront, lineBytes, byteDigits, hexLine, requestOf}
-use Rattle.frame.specs.Hex.{RequestRead}
+use Rattle.frame.specs.Hex.{frontOf, goodBytes, storedBytes, RequestRead}
 
 -- ---- the value of a digit
 
@@ -90,6 +90,25 @@ bytes-drop l i h =
     let e : 2 * (i + 1) ≡ suc (suc (2 * i)) = omega arith in
     rw (e, add-one (2 * i), drop-cons l (2 * i) 0 (omega arith), drop-cons l (suc (2 * i)) 0 (omega arith))
 
+-- the same of the bytes that are stored
+good-drop : (l : List ℕ) (i : ℕ) → 2 * i + 1 < length l
+    → goodBytes (drop (2 * i) l) ≡ frontOf (byteOf (digitValue (getD l (2 * i) 0)) (digitValue (getD l (2 * i + 1) 0))) (goodBytes (drop (2 * (i + 1)) l))
+unfolding goodBytes
+good-drop l i h =
+    let e : 2 * (i + 1) ≡ suc (suc (2 * i)) = omega arith in
+    rw (e, add-one (2 * i), drop-cons l (2 * i) 0 (omega arith), drop-cons l (suc (2 * i)) 0 (omega arith))
+
+-- one byte stored is a splice
+set-splice : (out : List ℕ) (i b : ℕ) (bs : List ℕ) → i < length out → splice (set out i b) (i + 1) bs ≡ splice out i (b ∷ bs)
+unfolding splice
+set-splice out i b bs h =
+    ap (λ (l : List ℕ). splice l (i + 1) bs) (set-split out i b h ∙ ap (λ (n : ℕ). take i out ++ b ∷ drop n out) (sym (add-one i)))
+    ∙ splice-splice out i (b ∷ []) bs (omega arith)
+
+splice-nothing : (out : List ℕ) (i : ℕ) → splice out i [] ≡ out
+unfolding splice
+splice-nothing out i = rw (add-zero i) (take-append-drop i out)
+
 -- an odd number of digits
 bytes-odd : (l : List ℕ) → length l % 2 ≡ 1 → lineBytes l ≡ none
 unfolding lineBytes
@@ -106,9 +125,10 @@ pub record BytesLeft (line out₀ out : List ℕ) (i : ℕ) : Type 0 where
   pub within : 2 * i ≤ length line
   pub long : length out ≡ length out₀
   pub same : bytesFront (take i out) (lineBytes (drop (2 * i) line)) ≡ lineBytes line
+  pub stored : splice out i (goodBytes (drop (2 * i) line)) ≡ splice out₀ 0 (goodBytes line)
 
 pub bytes-start : (line out : List ℕ) → BytesLeft line out out 0
-bytes-start line out = record { within = omega arith; long = refl; same = front-none (lineBytes line) }
+bytes-start line out = record { within = omega arith; long = refl; same = front-none (lineBytes line); stored = refl }
 
 -- ---- what the reader of a line answers
 
@@ -116,22 +136,32 @@ request-is : (l : List ℕ) → length l ≤ 8192 → requestOf l ≡ lineBytes 
 unfolding requestOf
 request-is l h = rw (le-ltb 8192 (length l) h)
 
-refused : (line out : List ℕ) → requestOf line ≡ none → RequestRead line out Request.Refused
-refused line out e = record { bytes = e; half = λ n p. absurd (no n p); within = λ n p. absurd (no n p) }
+refused : {line before out : List ℕ} → requestOf line ≡ none → out ≡ splice before 0 (storedBytes line) → RequestRead line before out Request.Refused
+refused e s = record { bytes = e; half = λ n p. absurd (no n p); within = λ n p. absurd (no n p); left = s }
   where
     no : (n : ℕ) → Request.Refused ≡ Request.Bytes n → ⊥
     no n p = let z : _≡_ {A = ℕ} 0 1 = cc in omega arith
 
-pub refused-long : (line out : List ℕ) → 8192 < length line → RequestRead line out Request.Refused
-unfolding requestOf
-refused-long line out h = refused line out (rw (lt-ltb 8192 (length line) h))
+-- a line that is read at all
+stored-is : (line : List ℕ) → length line ≤ 8192 → length line % 2 ≡ 0 → storedBytes line ≡ goodBytes line
+unfolding storedBytes
+stored-is line few even = rw (le-ltb 8192 (length line) few, even)
 
-pub refused-odd : (line out : List ℕ) → length line ≤ 8192 → length line % 2 ≡ 1 → RequestRead line out Request.Refused
-refused-odd line out h k = refused line out (request-is line h ∙ bytes-odd line k)
+pub refused-long : (line out : List ℕ) → 8192 < length line → RequestRead line out out Request.Refused
+unfolding requestOf storedBytes
+refused-long line out h = refused (rw (lt-ltb 8192 (length line) h)) (rw (lt-ltb 8192 (length line) h) (sym (splice-nothing out 0)))
+
+pub refused-odd : (line out : List ℕ) → length line ≤ 8192 → length line % 2 ≡ 1 → RequestRead line out out Request.Refused
+unfolding storedBytes
+refused-odd line out h k = refused (request-is line h ∙ bytes-odd line k) (rw (le-ltb 8192 (length line) h, k) (sym (splice-nothing out 0)))
 
 module _ {line out₀ out : List ℕ} {i : ℕ} (left : BytesLeft line out₀ out i) where
-  pub read-all : length line ≤ 8192 → length line % 2 ≡ 0 → length line / 2 ≤ i → RequestRead line out (Request.Bytes (length line / 2))
-  unfolding lineBytes
+  -- no byte is left to store
+  stored-all : length line ≤ 8192 → length line % 2 ≡ 0 → goodBytes (drop (2 * i) line) ≡ [] → out ≡ splice out₀ 0 (storedBytes line)
+  stored-all few even e = rw (stored-is line few even) (sym (splice-nothing out i) ∙ ap (splice out i) (sym e) ∙ left .stored)
+
+  pub read-all : length line ≤ 8192 → length line % 2 ≡ 0 → length line / 2 ≤ i → RequestRead line out₀ out (Request.Bytes (length line / 2))
+  unfolding lineBytes goodBytes
   read-all few even h =
       let e : length line / 2 ≡ i = omega (arith, left .within) in
       let past : length line ≤ 2 * i = omega arith in
@@ -139,6 +169,7 @@ module _ {line out₀ out : List ℕ} {i : ℕ} (left : BytesLeft line out₀ ou
         bytes = request-is line few ∙ sym (left .same) ∙ rw (e, drop-of-length-le line past) (ap some (append-nil (take i out)));
         half = λ n p. let q : length line / 2 ≡ n = cc in sym q;
         within = λ n p. let q : length line / 2 ≡ n = cc in omega arith;
+        left = stored-all few even (rw (drop-of-length-le line past));
       }
 
   module _ (h : 2 * i + 1 < length line) where
@@ -151,11 +182,19 @@ module _ {line out₀ out : List ℕ} {i : ℕ} (left : BytesLeft line out₀ ou
     split : {o : Option ℕ} → here ≡ o → bytesFront (take i out) (byteFront o rest) ≡ lineBytes line
     split e = ap (bytesFront (take i out)) (sym (bytes-drop line i h ∙ ap (λ o. byteFront o rest) e)) ∙ left .same
 
-    pub bytes-more : (b : ℕ) → i < length out → here ≡ some b → BytesLeft line out₀ (set out i b) (i + 1)
-    bytes-more b k e = record { within = omega arith; long = length-set out i b ∙ left .long; same = front-more out i b rest k ∙ split e }
+    good-split : {o : Option ℕ} → here ≡ o → goodBytes (drop (2 * i) line) ≡ frontOf o (goodBytes (drop (2 * (i + 1)) line))
+    good-split e = good-drop line i h ∙ ap (λ o. frontOf o (goodBytes (drop (2 * (i + 1)) line))) e
 
-    pub refused-digit : length line ≤ 8192 → here ≡ none → RequestRead line out Request.Refused
-    refused-digit few e = refused line out (request-is line few ∙ sym (split e))
+    pub bytes-more : (b : ℕ) → i < length out → here ≡ some b → BytesLeft line out₀ (set out i b) (i + 1)
+    bytes-more b k e = record {
+      within = omega arith;
+      long = length-set out i b ∙ left .long;
+      same = front-more out i b rest k ∙ split e;
+      stored = set-splice out i b (goodBytes (drop (2 * (i + 1)) line)) k ∙ ap (splice out i) (sym (good-split e)) ∙ left .stored;
+    }
+
+    pub refused-digit : length line ≤ 8192 → length line % 2 ≡ 0 → here ≡ none → RequestRead line out₀ out Request.Refused
+    refused-digit few even e = refused (request-is line few ∙ sym (split e)) (stored-all few even (good-split e))
 
 -- ---- the digits of bytes
 

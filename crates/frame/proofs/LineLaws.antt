@@ -75,7 +75,7 @@ module _ (s : List ℕ) (st : Store) {o : Outcome Store} (k : Contract (frameCal
 
 -- ---- a line
 
-module _ {l req : List ℕ} {r : Request} (read : RequestRead l req r) where
+module _ {l buffer req : List ℕ} {r : Request} (read : RequestRead l buffer req r) where
   pub bytes-fit : {k : ℕ} → r ≡ Request.Bytes k → 4096 ≤ length req → k ≤ length req
   bytes-fit {k} e h = omega (arith, read .within k e)
 

@@ -45,10 +45,10 @@ fn byte_value(high: u8, low: u8) -> Byte
     Byte::Value(h * 16 + l)
 }
 
-// The bytes of a line, into the start of `out`.
+// The bytes of a line, into the start of `out`. Of a line that has another character, those in front of it are stored.
 pub fn request_bytes(line: &[u8], out: &mut [u8]) -> Request
     requires { ⌜ 4096 ≤ length (now out) ⌝ }
-    ensures { λ r. ⌜ RequestRead (now (line .entry)) (now (out .exit)) r ⌝ }
+    ensures { λ r. ⌜ RequestRead (now (line .entry)) (now (out .entry)) (now (out .exit)) r ⌝ }
 {
     if 8192 < line.len() {
         return Request::Refused;

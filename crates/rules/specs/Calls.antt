@@ -184,6 +184,10 @@ slotView g st page f k =
 unfoldable pub slotIsHole : Geometry → Store → List ℕ → ℕ → ℕ → Bool
 slotIsHole g st page f k = cond (eqb (slotRefusal g st page f k) 0) (isHole (wordOf g (st .words) f k)) true
 
+-- where the part starts in the slice that it is of: at the slot's block in the memory, or at the page's first byte
+unfoldable pub slotStart : Geometry → Store → List ℕ → ℕ → ℕ → ℕ
+slotStart g st page f k = cond (slotIsHole g st page f k) 0 (pred (wordOf g (st .words) f k / 2) * g .B)
+
 pub record KindPromise (g : Geometry) (st : Store) (page : List ℕ) (f k number : ℕ) (hole : Bool) : Type 0 where
   pub number-is : number ≡ slotRefusal g st page f k
   pub hole-is : hole ≡ slotIsHole g st page f k

@@ -12,6 +12,7 @@ use Rattle.store.specs.EditPromises.{EditKnown}
 use Rattle.rules.proofs.GeometryLaws.{good, block-pos, slots-all, lengths}
 use Rattle.rules.proofs.SoundLaws.{sound-facts}
 use Rattle.tables.proofs.SlotLaws.{number-shaped, number-sound}
+use Rattle.tables.proofs.SurveyLaws.{surveyed-table}
 
 -- the words of a sound store, with a true table of one number for each block
 pub sound-counted : (g : Geometry) (st : Store) (counts : List ℕ) → Shaped g st → sound g st ≡ true → Tallied (st .words) counts → length counts ≡ g .N
@@ -24,10 +25,10 @@ sound-counted g st counts h s t n =
       few = omega (arith, lengths g st (h .lengths) .slots, slots-all g (good g (h .geometry)));
     }
 
-pub survey-known : (g : Geometry) (st : Store) (counts : List ℕ) (number usedIs owedIs f : ℕ) → Surveyed g st number usedIs owedIs counts
+pub survey-known : (g : Geometry) (st : Store) {zeros : List ℕ} (counts : List ℕ) (number usedIs owedIs f : ℕ) → Surveyed g st zeros number usedIs owedIs counts
     → number ≡ 0 → length counts ≡ g .N → f < g .F → EditKnown g st counts f
 survey-known g st counts number usedIs owedIs f r z n hf =
     let e = sym (r .promise .number-is) ∙ z in
     let h : Shaped g st = number-shaped g st (λ q. omega (arith, e, q)) (λ q. omega (arith, e, q)) in
     let s : sound g st ≡ true = number-sound g st e in
-    record { shaped = h; sound = s; counted = sound-counted g st counts h s (r .table z) n; blocks = n; file = hf }
+    record { shaped = h; sound = s; counted = sound-counted g st counts h s (surveyed-table g st s r) n; blocks = n; file = hf }

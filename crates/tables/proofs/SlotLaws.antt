@@ -1,24 +1,27 @@
 -- The ways out of the slot's two calls.
-use Prim.Native.Nat.{_+_, _-_, ℕ, _*_, _/_, _≤_, _<_}
-use mathlib.Core.Path.{_≡_, refl, sym, _∙_}
+use Prim.Native.Nat.{pred, _+_, _-_, ℕ, _*_, _/_, _≤_, _<_}
+use mathlib.Core.Path.{_≡_, refl, sym, ap, _∙_}
 use mathlib.Core.Bool.{Bool, true, false, cond, _&&_, not, true≢false}
 use mathlib.Core.List.{List, []}
 use mathlib.Core.Logic.{_≢_}
-use native.Mathlib.Nat.{add-sub-cancel-left}
+use native.Mathlib.Nat.{add-sub-cancel-left, zero-add}
 use native.Mathlib.Numerals.{sub-one}
 use native.Mathlib.Omega.{arith}
 use lib.ListN.{length, getD, take, drop}
 use lib.Dec.{ltb, eqb}
 use borrow.Author.Tests.{lt-ltb, le-ltb, eq-eqb, ne-eqb, ltb-true, eqb-true}
+use Rattle.xdr.specs.Part.{placeOf}
 use Rattle.rules.specs.Lists.{allTo}
 use Rattle.rules.specs.Store.{Geometry, goodGeometry, Store, goodLengths, isHole, wordOf, sound}
-use Rattle.rules.specs.Calls.{storeRefusal, slotRefusals, slotRefusal, slotView, slotIsHole, KindPromise}
+use Rattle.rules.specs.Calls.{storeRefusal, slotRefusals, slotRefusal, slotView, slotIsHole, slotStart, KindPromise}
+use Rattle.tables.specs.Lent.{Lent}
 use Rattle.tables.specs.Tables.{Shaped}
+use Rattle.tables.specs.View.{PlacePromise, ViewPromise}
 use Rattle.rules.proofs.BoolLaws.{and-left, and-right, not-is}
 use Rattle.rules.proofs.FirstLaws.{all-clear}
 use Rattle.rules.proofs.SoundLaws.{sound-facts}
 use Rattle.rules.proofs.GeometryLaws.{good, block-pos}
-use Rattle.tables.proofs.FileTests.{FileRoom, file-room}
+use Rattle.tables.proofs.FileTests.{FileRoom, file-room, block-end}
 
 -- what a store's refusal number says
 pub data Verdict (g : Geometry) (st : Store) : ℕ → Type 0 where
@@ -154,26 +157,73 @@ module _ (g : Geometry) (st : Store) (page : List ℕ) (f k : ℕ) where
       let s = sound-facts g (block-pos (good g (h .shaped .geometry))) st (h .shaped .lengths) (h .sound) in
       file-room (record { tables = record { shaped = h .shaped; pool = s .pool }; file = h .file })
 
-  -- ---- kind and view
+  -- ---- where the part lies
 
-  pub kind-refused : (n : ℕ) → n ≢ 0 → n ≡ slotRefusal g st page f k → KindPromise g st page f k n true
-  unfolding slotIsHole
-  kind-refused n d e = record { number-is = e; hole-is = rw (← e, ne-eqb n 0 d) }
+  pub place-refused : (n : ℕ) → n ≢ 0 → n ≡ slotRefusal g st page f k → PlacePromise g st page f k n true 0
+  unfolding slotIsHole slotStart
+  place-refused n d e = let h : slotIsHole g st page f k ≡ true = rw (← e, ne-eqb n 0 d) in record { number-is = e; hole-is = sym h; start-is = rw h }
 
-  pub kind-is : 0 ≡ slotRefusal g st page f k → (t : Bool) → t ≡ isHole (wordOf g (st .words) f k) → KindPromise g st page f k 0 t
-  unfolding slotIsHole
-  kind-is e t h = record { number-is = e; hole-is = rw (← e) h }
+  module _ (e : 0 ≡ slotRefusal g st page f k) (b : ℕ) (is : b ≡ wordOf g (st .words) f k / 2) where
+    pub place-hole : b ≡ 0 → PlacePromise g st page f k 0 true 0
+    unfolding slotIsHole slotStart
+    place-hole z = let h : slotIsHole g st page f k ≡ true = rw (← e, ← is, z) in record { number-is = e; hole-is = sym h; start-is = rw h }
 
-  pub view-refused : slotRefusal g st page f k ≢ 0 → slotView g st page f k ≡ []
-  unfolding slotView
-  view-refused d = rw (ne-eqb (slotRefusal g st page f k) 0 d)
+    pub place-block : b ≢ 0 → PlacePromise g st page f k 0 false ((b - 1) * g .B)
+    unfolding slotIsHole slotStart
+    place-block d =
+        let h : slotIsHole g st page f k ≡ false = rw (← e, ← is, ne-eqb b 0 d) in
+        record { number-is = e; hole-is = sym h; start-is = rw (h, ← is, ← sub-one b) }
 
-  pub view-hole : slotRefusal g st page f k ≡ 0 → wordOf g (st .words) f k / 2 ≡ 0 → slotView g st page f k ≡ page
-  unfolding slotView
-  view-hole e h = rw (e, h)
+  -- ---- the part itself
 
-  -- as the code takes it: from (b - 1) × B on, up to that plus B
-  pub view-block : slotRefusal g st page f k ≡ 0 → (b : ℕ) → b ≡ wordOf g (st .words) f k / 2 → (b ≡ 0 → ⊥)
-      → take ((b - 1) * g .B + g .B - (b - 1) * g .B) (drop ((b - 1) * g .B) (st .mem)) ≡ slotView g st page f k
-  unfolding slotView
-  view-block e b is d = rw (e, ← is, ne-eqb b 0 d, add-sub-cancel-left ((b - 1) * g .B) (g .B), sub-one b)
+  module _ {number start : ℕ} {hole : Bool} (p : PlacePromise g st page f k number hole start) where
+    pub place-kind : KindPromise g st page f k number hole
+    place-kind = record { number-is = p .number-is; hole-is = p .hole-is }
+
+    -- a block's part is in the memory
+    pub block-inside : number ≡ 0 → hole ≡ false → start + g .B ≤ length (st .mem)
+    unfolding slotIsHole slotStart
+    block-inside z h =
+        let e : slotRefusal g st page f k ≡ 0 = sym (p .number-is) ∙ z in
+        let t : slotIsHole g st page f k ≡ false = sym (p .hole-is) ∙ h in
+        let w : ℕ = wordOf g (st .words) f k / 2 in
+        let d : w ≢ 0 = λ (q : w ≡ 0). true≢false (sym (rw (e, q)) ∙ t) in
+        let s : start ≡ (w - 1) * g .B = p .start-is ∙ rw (t, sub-one w) in
+        omega (arith, s, slot-room (slot-known e) .block k, block-end w (g .B) d)
+
+-- the view: a part r of the page, or of the memory
+module _ (g : Geometry) (st : Store) (mem page : Lent) (f k : ℕ) {number start : ℕ} {hole : Bool} (p : PlacePromise g st (page .now) f k number hole start) where
+  abbrev Shown : Lent → Type 0
+  Shown r = ViewPromise g st mem page f k r
+
+  -- the slice is known by the kind, the place in it by the start
+  placed : (t : Bool) → hole ≡ t → {r : Lent} → r .now ≡ slotView g st (page .now) f k → r .ptr ≡ placeOf (cond t page mem) start → Shown r
+  placed t h b s = record { bytes-are = b; starts = rw (← p .hole-is, ← p .start-is, h) s }
+
+  -- the page is shown from its first byte on
+  page-start : hole ≡ true → start ≡ 0
+  unfolding slotStart
+  page-start h = p .start-is ∙ rw (← p .hole-is, h)
+
+  pub view-refused : number ≢ 0 → (r : Lent) → r .now ≡ [] → r .ptr ≡ placeOf page 0 → Shown r
+  unfolding slotView slotIsHole
+  view-refused d r b s =
+      let h : hole ≡ true = p .hole-is ∙ rw (← p .number-is, ne-eqb number 0 d) in
+      placed true h (rw (← p .number-is, ne-eqb number 0 d) b) (rw (page-start h) s)
+
+  module _ (none : number ≡ 0) where
+    kind-is : isHole (wordOf g (st .words) f k) ≡ hole
+    unfolding slotIsHole
+    kind-is = sym (p .hole-is ∙ rw (← p .number-is, none))
+
+    pub view-page : hole ≡ true → Shown page
+    unfolding slotView
+    view-page h =
+        placed true h (rw (← p .number-is, none, kind-is, h)) (rw (page-start h) (ap (λ (n : ℕ). (page .ptr .0, n)) (sym (zero-add (page .ptr .1)))))
+
+    -- as the code takes it: from `start` on, up to that plus B
+    pub view-block : hole ≡ false → (r : Lent) → r .now ≡ take (start + g .B - start) (drop start (st .mem)) → r .ptr ≡ placeOf mem start → Shown r
+    unfolding slotView slotStart
+    view-block h r b s =
+        let at : start ≡ pred (wordOf g (st .words) f k / 2) * g .B = p .start-is ∙ rw (← p .hole-is, h) in
+        placed false h (rw (← p .number-is, none, kind-is, h, ← at) (b ∙ rw (add-sub-cancel-left start (g .B)))) s

@@ -1,28 +1,37 @@
 -- The survey: what its tests and counts say of a store.
 use Prim.Native.Nat.{ℕ, zero, suc, _+_, _*_, _/_, _≤_, _<_}
 use mathlib.Core.Path.{_≡_, refl, sym, ap, _∙_}
-use mathlib.Core.Bool.{Bool, true, false, not}
+use mathlib.Core.Bool.{Bool, true, false, not, _&&_}
 use mathlib.Core.List.{List, _∷_}
-use native.Mathlib.Nat.{le-of-suc-le-suc}
+use native.Mathlib.Nat.{zero-add, le-of-suc-le-suc}
 use native.Mathlib.Decide.{decLt}
 use native.Mathlib.Omega.{arith}
 use lib.ListN.{length, getD, take, replicate, length-replicate, List·getD-eq-default}
+use lib.Seq.{ext-getD}
 use lib.Dec.{leb, ltb}
 use borrow.Author.Tests.{leb-true, le-leb, lt-leb, not-true, not-false}
-use Rattle.rules.specs.Lists.{allTo, count}
-use Rattle.rules.specs.Store.{Geometry, Store, used, owed, soundFile, sound}
+use Rattle.rules.specs.Lists.{allTo, count, tabulate}
+use Rattle.rules.specs.Store.{Geometry, Store, holders, used, owed, fitsPool, soundFile, sound}
 use Rattle.tables.specs.Tables.{Shaped, Pooled, Tallied}
 use Rattle.tables.specs.Tally.{Untallied, owesBy}
-use Rattle.tables.specs.Survey.{TableReady, TableFits, Surveyed}
+use Rattle.tables.specs.Survey.{TableReady, TableFits, tableAfter, Surveyed}
 use Rattle.rules.proofs.GeometryLaws.{good, slots-all, lengths}
 use Rattle.rules.proofs.SoundLaws.{allTo-at}
+use Rattle.rules.proofs.SlotByteLaws.{length-tab, getD-tab}
 use Rattle.tables.proofs.TallyLaws.{count-most, tallied-used, tallied-owed}
 use Rattle.tables.proofs.CallLaws.{count-unsound, count-sound, sound-words, sound-files, sound-room}
 use Rattle.rules.proofs.PlanLaws.{InPool}
 
 -- a store that is not sound
-unsound : (g : Geometry) (st : Store) (counts : List ℕ) → Shaped g st → sound g st ≡ false → Surveyed g st 3 0 0 counts
-unsound g st counts h e = record { promise = count-unsound g st h e; table = λ z. absurd (omega (arith, z)) }
+unsound : (g : Geometry) (st : Store) {counts after : List ℕ} → Shaped g st → sound g st ≡ false → after ≡ tableAfter g st counts → Surveyed g st counts 3 0 0 after
+unsound g st h e t = record { promise = count-unsound g st h e; table = t }
+
+-- a true table is the list of the blocks' holders
+tallied-is : (ws after : List ℕ) (n : ℕ) → Tallied ws after → length after ≡ n → after ≡ tabulate (λ b. holders b ws) 0 n
+tallied-is ws after n t e =
+    let long : length (tabulate (λ b. holders b ws) 0 n) ≡ n = length-tab (λ b. holders b ws) n 0 in
+    ext-getD 0 after (tabulate (λ b. holders b ws) 0 n) (e ∙ sym long)
+    (λ b h. t .each b h ∙ ap (λ (x : ℕ). holders x ws) (sym (zero-add b)) ∙ sym (getD-tab (λ b. holders b ws) n 0 b (omega (arith, e))))
 
 -- the first n of a longer row of zeros
 take-replicate : (n m : ℕ) → n ≤ m → _≡_ {A = List ℕ} (take n (replicate m 0)) (replicate n 0)
@@ -36,8 +45,9 @@ module _ (g : Geometry) (st : Store) (counts : List ℕ) (r : TableReady g st co
     formed : a ≡ allTo (g .F * g .S) (λ i. leb (getD (st .words) i 0 / 2) (g .N))
     formed = wordsAre ∙ ap (λ (n : ℕ). allTo n (λ i. leb (getD (st .words) i 0 / 2) (g .N))) (lengths g st (r .shaped .lengths) .slots)
 
-    pub survey-words : (after : List ℕ) → not a ≡ true → Surveyed g st 3 0 0 after
-    survey-words after h = unsound g st after (r .shaped) (sound-words g st (sym formed ∙ not-true a h))
+    pub survey-words : not a ≡ true → Surveyed g st counts 3 0 0 counts
+    unfolding tableAfter
+    survey-words h = unsound g st (r .shaped) (sound-words g st (sym formed ∙ not-true a h)) (rw (sym formed ∙ not-true a h))
 
     module _ (ok : not a ≡ false) where
       pool : InPool (g .N) (st .words)
@@ -61,8 +71,11 @@ module _ (g : Geometry) (st : Store) (counts : List ℕ) (r : TableReady g st co
       }
 
       module _ (b : Bool) (filesAre : b ≡ allTo (g .F) (soundFile g st)) where
-        pub survey-files : (after : List ℕ) → not b ≡ true → Surveyed g st 3 0 0 after
-        survey-files after h = unsound g st after (r .shaped) (sound-files g st (sym formed ∙ not-false a ok) (sym filesAre ∙ not-true b h))
+        pub survey-files : not b ≡ true → Surveyed g st counts 3 0 0 counts
+        unfolding tableAfter
+        survey-files h =
+            unsound g st (r .shaped) (sound-files g st (sym formed ∙ not-false a ok) (sym filesAre ∙ not-true b h))
+            (rw (sym formed ∙ not-false a ok, sym filesAre ∙ not-true b h))
 
         module _ (fine : not b ≡ false) (after : List ℕ) (kept : length after ≡ length counts) (table : Tallied (st .words) after) where
           -- what `owed_slots` asks
@@ -84,14 +97,19 @@ module _ (g : Geometry) (st : Store) (counts : List ℕ) (r : TableReady g st co
                 untallied .few,
               )
 
-          pub survey-room : (u o : ℕ) → u ≡ count (ltb 0) after → o ≡ count (owesBy after) (st .words) → g .N < u + o → Surveyed g st 3 0 0 after
+          after-is : after ≡ tableAfter g st counts
+          unfolding tableAfter
+          after-is = rw (sym formed ∙ not-false a ok, sym filesAre ∙ not-false b fine) (tallied-is (st .words) after (g .N) table (kept ∙ long))
+
+          pub survey-room : (u o : ℕ) → u ≡ count (ltb 0) after → o ≡ count (owesBy after) (st .words) → g .N < u + o → Surveyed g st counts 3 0 0 after
           survey-room u o p q l =
-              unsound g st after (r .shaped)
+              unsound g st (r .shaped)
               (sound-room g st (sym formed ∙ not-false a ok) (sym filesAre ∙ not-false b fine) false
               (lt-leb (used (st .words) + owed (st .words)) (g .N)
               (omega (arith, p, q, tallied-used (st .words) after table in-table, tallied-owed (st .words) after table in-table))))
+              after-is
 
-          pub surveyed : (u o : ℕ) → u ≡ count (ltb 0) after → o ≡ count (owesBy after) (st .words) → u + o ≤ g .N → Surveyed g st 0 u o after
+          pub surveyed : (u o : ℕ) → u ≡ count (ltb 0) after → o ≡ count (owesBy after) (st .words) → u + o ≤ g .N → Surveyed g st counts 0 u o after
           surveyed u o p q l =
               let eu : u ≡ used (st .words) = p ∙ tallied-used (st .words) after table in-table in
               let eo : o ≡ owed (st .words) = q ∙ tallied-owed (st .words) after table in-table in
@@ -99,17 +117,46 @@ module _ (g : Geometry) (st : Store) (counts : List ℕ) (r : TableReady g st co
               (record {
                 promise = count-sound g st (r .shaped)
                     (sound-room g st (sym formed ∙ not-false a ok) (sym filesAre ∙ not-false b fine) true (le-leb (used (st .words) + owed (st .words)) (g .N) (omega (arith, eu, eo))));
-                table = λ z. table;
+                table = after-is;
               })
 
 -- the part of a longer table
 pub table-part : (g : Geometry) (st : Store) (counts : List ℕ) → TableFits g st counts → TableReady g st (take (g .N) counts)
 table-part g st counts h = record { shaped = h .shaped; zero = ap (take (g .N)) (h .zero) ∙ take-replicate (g .N) (length counts) (h .long) }
 
--- the largest table serves every geometry
-pub table-zeros : (g : Geometry) (st : Store) → Shaped g st → TableFits g st (replicate 65536 0)
-table-zeros g st h = record {
+-- zeros for at least as many blocks as the pool has
+pub table-zeros : (g : Geometry) (st : Store) (n : ℕ) → Shaped g st → g .N ≤ n → TableFits g st (replicate n 0)
+table-zeros g st n h long = record {
   shaped = h;
-  long = rw (length-replicate {A = ℕ} 65536 0) (good g (h .geometry) .blocks-most);
-  zero = ap (λ (n : ℕ). replicate n 0) (sym (length-replicate {A = ℕ} 65536 0));
+  long = rw (length-replicate {A = ℕ} n 0) long;
+  zero = ap (λ (k : ℕ). replicate k 0) (sym (length-replicate {A = ℕ} n 0));
 }
+
+pub most-blocks : {g : Geometry} {st : Store} → Shaped g st → g .N ≤ 65536
+most-blocks {g} h = good g (h .geometry) .blocks-most
+
+-- the table of a sound store is true
+pub surveyed-table : (g : Geometry) (st : Store) {counts after : List ℕ} {number u o : ℕ} → sound g st ≡ true → Surveyed g st counts number u o after → Tallied (st .words) after
+unfolding tableAfter sound
+surveyed-table g st {counts} {after} s r = record { each = λ b h. at b (rw is at h) }
+  where
+    words : Bool
+    words = allTo (g .F * g .S) (λ i. leb (getD (st .words) i 0 / 2) (g .N))
+
+    files : Bool
+    files = allTo (g .F) (soundFile g st)
+
+    tests : words && files ≡ true
+    tests = both words files (fitsPool (g .N) (st .words)) s
+      where
+        both : (a b c : Bool) → a && b && c ≡ true → a && b ≡ true
+        both true true c e = refl
+        both true false c e = e
+        both false b c e = e
+
+    is : after ≡ tabulate (λ b. holders b (st .words)) 0 (g .N)
+    is = r .table ∙ rw tests
+
+    at : (b : ℕ) → b < length (tabulate (λ b. holders b (st .words)) 0 (g .N)) → getD after b 0 ≡ holders b (st .words)
+    at b h =
+        rw is (getD-tab (λ b. holders b (st .words)) (g .N) 0 b (omega (arith, length-tab (λ b. holders b (st .words)) (g .N) 0)) ∙ ap (λ (x : ℕ). holders x (st .words)) (zero-add b))

@@ -2,3 +2,4 @@ pub mod Lent
 pub mod Tables
 pub mod Tally
 pub mod Survey
+pub mod View

@@ -1,11 +1,14 @@
 -- The survey's table of holders: what is asked of it, and what it is afterwards.
-use Prim.Native.Nat.{ℕ, _≤_}
+use Prim.Native.Nat.{ℕ, _*_, _/_, _≤_}
 use mathlib.Core.Path.{_≡_}
+use mathlib.Core.Bool.{cond, _&&_}
 use mathlib.Core.List.{List}
-use lib.ListN.{length, replicate}
-use Rattle.rules.specs.Store.{Geometry, Store}
+use lib.ListN.{length, getD, replicate}
+use lib.Dec.{leb}
+use Rattle.rules.specs.Lists.{allTo, tabulate}
+use Rattle.rules.specs.Store.{Geometry, Store, holders, soundFile}
 use Rattle.rules.specs.Calls.{CountPromise}
-use Rattle.tables.specs.Tables.{Shaped, Tallied}
+use Rattle.tables.specs.Tables.{Shaped}
 
 -- a zero for each block
 pub record TableReady (g : Geometry) (st : Store) (counts : List ℕ) : Type 0 where
@@ -18,7 +21,12 @@ pub record TableFits (g : Geometry) (st : Store) (counts : List ℕ) : Type 0 wh
   pub long : g .N ≤ length counts
   pub zero : counts ≡ replicate (length counts) 0
 
--- the counts are right, and on a sound store the table is true
-pub record Surveyed (g : Geometry) (st : Store) (number usedIs owedIs : ℕ) (counts : List ℕ) : Type 0 where
+-- the table that a survey leaves: where words and files pass their tests the holders of each block, else as it was
+unfoldable pub tableAfter : Geometry → Store → List ℕ → List ℕ
+tableAfter g st counts =
+    cond (allTo (g .F * g .S) (λ i. leb (getD (st .words) i 0 / 2) (g .N)) && allTo (g .F) (soundFile g st)) (tabulate (λ b. holders b (st .words)) 0 (g .N)) counts
+
+-- the answer, and the table afterwards
+pub record Surveyed (g : Geometry) (st : Store) (counts : List ℕ) (number usedIs owedIs : ℕ) (after : List ℕ) : Type 0 where
   pub promise : CountPromise g st number usedIs owedIs
-  pub table : number ≡ 0 → Tallied (st .words) counts
+  pub table : after ≡ tableAfter g st counts

@@ -19,6 +19,11 @@ impl Geometry {
 
     pub const MAX_BLOCKS: usize = 65536;
 
+    // Pools of at most so many blocks have smaller local tables.
+    pub const SMALL_POOL: usize = 256;
+
+    pub const MIDDLE_POOL: usize = 4096;
+
     // Whether the numbers lie inside the limits.
     pub fn good(self) -> bool
         ensures { λ r. ⌜ r ≡ goodGeometry (geometryOf self) ⌝ }

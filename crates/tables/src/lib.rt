@@ -19,6 +19,8 @@ pub use tally::owed_slots;
 pub use tally::takes_block;
 pub use tally::used_blocks;
 pub use view::Kind;
+pub use view::Place;
 pub use view::slot_kind;
+pub use view::slot_place;
 pub use view::slot_view;
 pub use words::set_word;

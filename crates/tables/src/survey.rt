@@ -1,5 +1,6 @@
 // Whether a store is sound, and its used and owed blocks, from one table of holders.
 ghost use mathlib.Core.Path.{_≡_};
+ghost use Prim.Native.Nat.{_≤_};
 ghost use Rattle.tables.specs.Lent.{geometryOf, before, tables};
 ghost use Rattle.tables.specs.Tables.{Shaped};
 ghost use Rattle.rules.specs.Calls.{storeRefusal, CountPromise};
@@ -29,7 +30,7 @@ pub fn survey_tables(
     counts: &mut [u32],
 ) -> Counts
     requires { ⌜ TableReady (geometryOf g) (tables sizes words mem) (now counts) ⌝ }
-    ensures { λ r. ⌜ Surveyed (geometryOf g) (before sizes words mem)
+    ensures { λ r. ⌜ Surveyed (geometryOf g) (before sizes words mem) (now (counts .entry))
         (r .number) (r .used) (r .owed) (now (counts .exit)) ⌝ }
 {
     if !words_formed(words, g.blocks) {
@@ -73,13 +74,46 @@ fn survey_in(g: Geometry, sizes: &[u64], words: &[u32], mem: &[u8], counts: &mut
     survey_tables(g, sizes, words, mem, &mut counts[..n])
 }
 
+// The same with a table of its own, which it only lends. A small table is cleared faster.
+fn survey_small(g: Geometry, sizes: &[u64], words: &[u32], mem: &[u8]) -> Counts
+    requires { ⌜ Shaped (geometryOf g) (tables sizes words mem) × (g .blocks ≤ 256) ⌝ }
+    ensures { λ r. ⌜ CountPromise (geometryOf g) (before sizes words mem)
+        (r .number) (r .used) (r .owed) ⌝ }
+{
+    let mut counts = [0u32; Geometry::SMALL_POOL];
+    survey_in(g, sizes, words, mem, &mut counts)
+}
+
+fn survey_middle(g: Geometry, sizes: &[u64], words: &[u32], mem: &[u8]) -> Counts
+    requires { ⌜ Shaped (geometryOf g) (tables sizes words mem) × (g .blocks ≤ 4096) ⌝ }
+    ensures { λ r. ⌜ CountPromise (geometryOf g) (before sizes words mem)
+        (r .number) (r .used) (r .owed) ⌝ }
+{
+    let mut counts = [0u32; Geometry::MIDDLE_POOL];
+    survey_in(g, sizes, words, mem, &mut counts)
+}
+
+fn survey_large(g: Geometry, sizes: &[u64], words: &[u32], mem: &[u8]) -> Counts
+    requires { ⌜ Shaped (geometryOf g) (tables sizes words mem) × (g .blocks ≤ 65536) ⌝ }
+    ensures { λ r. ⌜ CountPromise (geometryOf g) (before sizes words mem)
+        (r .number) (r .used) (r .owed) ⌝ }
+{
+    let mut counts = [0u32; Geometry::MAX_BLOCKS];
+    survey_in(g, sizes, words, mem, &mut counts)
+}
+
 fn survey_shaped(g: Geometry, sizes: &[u64], words: &[u32], mem: &[u8]) -> Counts
     requires { ⌜ Shaped (geometryOf g) (tables sizes words mem) ⌝ }
     ensures { λ r. ⌜ CountPromise (geometryOf g) (before sizes words mem)
         (r .number) (r .used) (r .owed) ⌝ }
 {
-    let mut counts = [0u32; 65536];
-    survey_in(g, sizes, words, mem, &mut counts)
+    if g.blocks <= Geometry::SMALL_POOL {
+        return survey_small(g, sizes, words, mem);
+    }
+    if g.blocks <= Geometry::MIDDLE_POOL {
+        return survey_middle(g, sizes, words, mem);
+    }
+    survey_large(g, sizes, words, mem)
 }
 
 // How many blocks are used, and how many are owed.

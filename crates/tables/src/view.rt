@@ -1,7 +1,8 @@
 // One slot shown without copying: its part of the block memory, or the zero page that the caller lends.
 ghost use mathlib.Core.Path.{_≡_};
 ghost use Rattle.tables.specs.Lent.{geometryOf, before};
-ghost use Rattle.rules.specs.Calls.{slotRefusal, slotView, KindPromise};
+ghost use Rattle.rules.specs.Calls.{slotRefusal, KindPromise};
+ghost use Rattle.tables.specs.View.{PlacePromise, ViewPromise};
 use crate::files::zero_bytes;
 use crate::geometry::Geometry;
 use crate::geometry::good_lengths;
@@ -11,6 +12,13 @@ use crate::survey::soundness;
 pub struct Kind {
     pub number: u32,
     pub hole: bool,
+}
+
+// That, and where the part starts: in the memory, or for a hole and on a refusal in the page.
+pub struct Place {
+    pub number: u32,
+    pub hole: bool,
+    pub start: usize,
 }
 
 fn slot_refusal(
@@ -49,6 +57,41 @@ fn slot_refusal(
     0
 }
 
+// The refusal, which of the two slices has the slot's part, and where it starts there.
+pub fn slot_place(
+    g: Geometry,
+    sizes: &[u64],
+    words: &[u32],
+    mem: &[u8],
+    page: &[u8],
+    f: usize,
+    k: usize,
+) -> Place
+    ensures { λ r. ⌜ PlacePromise (geometryOf g) (before sizes words mem) (now (page .entry)) f k (r .number) (r .hole) (r .start) ⌝ }
+{
+    let number = slot_refusal(g, sizes, words, mem, page, f, k);
+    if number != 0 {
+        return Place {
+            number,
+            hole: true,
+            start: 0,
+        };
+    }
+    let b = (words[f * g.slots + k] / 2) as usize;
+    if b == 0 {
+        return Place {
+            number: 0,
+            hole: true,
+            start: 0,
+        };
+    }
+    Place {
+        number: 0,
+        hole: false,
+        start: (b - 1) * g.block_size,
+    }
+}
+
 pub fn slot_kind(
     g: Geometry,
     sizes: &[u64],
@@ -60,14 +103,10 @@ pub fn slot_kind(
 ) -> Kind
     ensures { λ r. ⌜ KindPromise (geometryOf g) (before sizes words mem) (now (page .entry)) f k (r .number) (r .hole) ⌝ }
 {
-    let number = slot_refusal(g, sizes, words, mem, page, f, k);
-    if number != 0 {
-        return Kind { number, hole: true };
-    }
-    let w = words[f * g.slots + k];
+    let p = slot_place(g, sizes, words, mem, page, f, k);
     Kind {
-        number: 0,
-        hole: w / 2 == 0,
+        number: p.number,
+        hole: p.hole,
     }
 }
 
@@ -80,16 +119,16 @@ pub fn slot_view<'a>(
     f: usize,
     k: usize,
 ) -> &'a [u8]
-    ensures { λ r. ⌜ now r ≡ slotView (geometryOf g) (before sizes words mem) (now (page .entry)) f k ⌝ }
+    ensures { λ r. ⌜ ViewPromise (geometryOf g) (before sizes words mem) (mem .entry) (page .entry) f k r ⌝ }
 {
-    if slot_refusal(g, sizes, words, mem, page, f, k) != 0 {
+    let p = slot_place(g, sizes, words, mem, page, f, k);
+    if p.number != 0 {
         return &page[0..0];
     }
-    let b = (words[f * g.slots + k] / 2) as usize;
-    if b == 0 {
+    if p.hole {
         return page;
     }
-    let at = (b - 1) * g.block_size;
-    let end = at + g.block_size;
-    &mem[at..end]
+    let start = p.start;
+    let end = start + g.block_size;
+    &mem[start..end]
 }

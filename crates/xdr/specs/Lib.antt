@@ -3,3 +3,4 @@ pub mod Encode
 pub mod Decode
 pub mod Answers
 pub mod Layout
+pub mod Part

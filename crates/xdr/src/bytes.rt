@@ -1,7 +1,7 @@
 // Parts of slices of bytes.
 ghost use mathlib.Core.Path.{_≡_};
 ghost use lib.ListN.{length, replicate};
-ghost use Rattle.xdr.specs.Bytes.{partOf};
+ghost use Rattle.xdr.specs.Part.{PartPromise};
 
 // Where bytes stand in a slice: `len` of them from `start` on.
 pub struct Span {
@@ -11,7 +11,7 @@ pub struct Span {
 
 // The bytes of a span, as far as the slice has them.
 pub fn part(s: &[u8], d: Span) -> &[u8]
-    ensures { λ r. ⌜ now r ≡ partOf (now (s .entry)) d ⌝ }
+    ensures { λ r. ⌜ PartPromise (s .entry) d r ⌝ }
 {
     let start = d.start;
     let len = d.len;

@@ -4,17 +4,13 @@ use native.Mathlib.Nat.{mul-le-mul}
 use Rattle.edits.proofs.product.Statement.{statement}
 use Rattle.edits.proofs.product.Tie as tie
 
-returns : tie.Need-returns
-returns c = search needs
-
-returns-2 : tie.Need-returns-2
-returns-2 c = search needs
-
 mul-result : tie.Need-mul-result
 mul-result c = omega (arith, mul-le-mul (c .before .if1 .left) (c .if2 .left))
 
-returns-3 : tie.Need-returns-3
-returns-3 c = search needs
-
 pub product-spec : {M : Type 1} → statement M
-product-spec = tie.close (tie.spec returns returns-2 mul-result returns-3)
+product-spec =
+    tie.close
+    (tie.spec
+    (λ c. search needs)
+    (λ c. search needs)
+    mul-result (λ c. search needs))

@@ -13,21 +13,6 @@ Inv-loop sizes₀ words₀ mem₀ line₀ out₀ input₀ p₀ turns₀ sizes wo
 abbrev μ-loop : tie.MeasureT-loop
 μ-loop sizes₀ words₀ mem₀ line₀ out₀ input₀ p₀ turns₀ sizes words mem line out input p turns = turns
 
-loop-holds : tie.Need-loop-holds Inv-loop μ-loop
-loop-holds c = search needs
-
-serve-some-requires : tie.Need-serve-some-requires Inv-loop μ-loop
-serve-some-requires c κs = search needs
-
-sub-turns : tie.Need-sub-turns Inv-loop μ-loop
-sub-turns c = search needs
-
-loop-less : tie.Need-loop-less Inv-loop μ-loop
-loop-less c = search needs
-
-loop-again : tie.Need-loop-again Inv-loop μ-loop
-loop-again c = search needs
-
 same-length : tie.Need-same-length Inv-loop μ-loop
 same-length c = c .before .before .loop .inv .0
 
@@ -74,24 +59,7 @@ pub serve-all-spec : {M : Type 1} → statement M
 serve-all-spec =
     tie.close
     (tie.spec
-    Inv-loop
-    μ-loop
-    loop-holds
-    serve-some-requires
-    sub-turns
-    loop-less
-    loop-again
-    same-length
-    same-length-2
-    same-length-3
-    same-length-4
-    same-length-5
-    same-length-6
-    returns
-    same-length-7
-    same-length-8
-    same-length-9
-    same-length-10
-    same-length-11
-    same-length-12
-    returns-2)
+    Inv-loop μ-loop (λ c. search needs) (λ c κs. search needs) (λ c. search needs) (λ c. search needs)
+    (λ c. search needs)
+    same-length same-length-2 same-length-3 same-length-4 same-length-5 same-length-6 returns
+    same-length-7 same-length-8 same-length-9 same-length-10 same-length-11 same-length-12 returns-2)

@@ -13,33 +13,6 @@ Inv-loop sizes₀ words₀ mem₀ line₀ out₀ piece kept p₀ i₀ sizes word
 abbrev μ-loop : tie.MeasureT-loop
 μ-loop sizes₀ words₀ mem₀ line₀ out₀ piece kept p₀ i₀ sizes words mem line out p i = length piece - i
 
-loop-holds : tie.Need-loop-holds Inv-loop μ-loop
-loop-holds c = search needs
-
-find-requires : tie.Need-find-requires Inv-loop μ-loop
-find-requires c κs = search needs
-
-sub-serve-part : tie.Need-sub-serve-part Inv-loop μ-loop
-sub-serve-part c = search needs
-
-part-serve-part-start : tie.Need-part-serve-part-start Inv-loop μ-loop
-part-serve-part-start c = search needs
-
-part-serve-part-end : tie.Need-part-serve-part-end Inv-loop μ-loop
-part-serve-part-end c = search needs
-
-serve-part-requires : tie.Need-serve-part-requires Inv-loop μ-loop
-serve-part-requires c κs = search needs
-
-add-i : tie.Need-add-i Inv-loop μ-loop
-add-i c = search needs
-
-loop-less : tie.Need-loop-less Inv-loop μ-loop
-loop-less c = search needs
-
-loop-again : tie.Need-loop-again Inv-loop μ-loop
-loop-again c = search needs
-
 same-length : tie.Need-same-length Inv-loop μ-loop
 same-length c = c .before .before .loop .inv .0
 
@@ -80,26 +53,7 @@ pub serve-lines-spec : {M : Type 1} → statement M
 serve-lines-spec =
     tie.close
     (tie.spec
-    Inv-loop
-    μ-loop
-    loop-holds
-    find-requires
-    sub-serve-part
-    part-serve-part-start
-    part-serve-part-end
-    serve-part-requires
-    add-i
-    loop-less
-    loop-again
-    same-length
-    same-length-2
-    same-length-3
-    same-length-4
-    same-length-5
-    returns
-    same-length-6
-    same-length-7
-    same-length-8
-    same-length-9
-    same-length-10
-    returns-2)
+    Inv-loop μ-loop (λ c. search needs) (λ c κs. search needs) (λ c. search needs) (λ c. search needs)
+    (λ c. search needs) (λ c κs. search needs) (λ c. search needs) (λ c. search needs) (λ c. search needs)
+    same-length same-length-2 same-length-3 same-length-4 same-length-5 returns
+    same-length-6 same-length-7 same-length-8 same-length-9 same-length-10 returns-2)

@@ -3,14 +3,11 @@ use Rattle.server.proofs.ExportLaws.{counted}
 use Rattle.server.proofs.store_count_blocks.Statement.{statement}
 use Rattle.server.proofs.store_count_blocks.Tie as tie
 
-geometry-requires : tie.Need-geometry-requires
-geometry-requires c κs = search needs
-
-count-blocks-requires : tie.Need-count-blocks-requires
-count-blocks-requires c κs = search needs
-
 returns : tie.Need-returns
 returns c = let k = c .before in counted _ _ _ _ _ _ (k .before .geometry .ensures) (k .count-blocks .ensures)
 
 pub store-count-blocks-spec : {M : Type 1} → statement M
-store-count-blocks-spec = tie.close (tie.spec geometry-requires count-blocks-requires returns)
+store-count-blocks-spec =
+    tie.close
+    (tie.spec
+    (λ c κs. search needs) (λ c κs. search needs) returns)

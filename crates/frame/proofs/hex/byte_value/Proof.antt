@@ -4,26 +4,8 @@ use borrow.Author.Needs.{needs}
 use Rattle.frame.proofs.hex.byte_value.Statement.{statement}
 use Rattle.frame.proofs.hex.byte_value.Tie as tie
 
-digit-value-requires : tie.Need-digit-value-requires
-digit-value-requires c κs = search needs
-
-enum-known-h : tie.Need-enum-known-h
-enum-known-h c = search needs
-
-enum-told : tie.Need-enum-told
-enum-told c = search needs
-
 returns : tie.Need-returns
 returns c = let k = c .before .before in rw (← k .digit-value .ensures, c .enum-told .given .1)
-
-digit-value-requires-2 : tie.Need-digit-value-requires-2
-digit-value-requires-2 c κs = search needs
-
-enum-known-l : tie.Need-enum-known-l
-enum-known-l c = search needs
-
-enum-told-2 : tie.Need-enum-told-2
-enum-told-2 c = search needs
 
 returns-2 : tie.Need-returns-2
 returns-2 c =
@@ -59,14 +41,6 @@ pub byte-value-spec : {M : Type 1} → statement M
 byte-value-spec =
     tie.close
     (tie.spec
-    digit-value-requires
-    enum-known-h
-    enum-told
-    returns
-    digit-value-requires-2
-    enum-known-l
-    enum-told-2
-    returns-2
-    mul-t7
-    add-t8
-    returns-3)
+    (λ c κs. search needs) (λ c. search needs) (λ c. search needs) returns
+    (λ c κs. search needs) (λ c. search needs) (λ c. search needs) returns-2
+    mul-t7 add-t8 returns-3)

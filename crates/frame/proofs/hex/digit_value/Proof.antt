@@ -4,12 +4,6 @@ use borrow.Author.Needs.{needs}
 use Rattle.frame.proofs.hex.digit_value.Statement.{statement}
 use Rattle.frame.proofs.hex.digit_value.Tie as tie
 
-add-t6 : tie.Need-add-t6
-add-t6 c = search needs
-
-add-t8 : tie.Need-add-t8
-add-t8 c = search needs
-
 returns : tie.Need-returns
 returns c = digit-09 (c .before .before .args .c) (omega arith) (omega arith)
 
@@ -34,4 +28,11 @@ returns-7 c = no-digit-above-f (c .before .before .before .before .before .befor
 pub digit-value-spec : {M : Type 1} → statement M
 digit-value-spec =
     tie.close
-    (tie.spec add-t6 add-t8 returns returns-2 returns-3 returns-4 returns-5 returns-6 returns-7)
+    (tie.spec
+    (λ c. search needs) (λ c. search needs) returns
+    returns-2
+    returns-3
+    returns-4
+    returns-5
+    returns-6
+    returns-7)

@@ -6,26 +6,8 @@ use borrow.Author.Needs.{needs}
 use Rattle.frame.proofs.hex.put_byte.Statement.{statement}
 use Rattle.frame.proofs.hex.put_byte.Tie as tie
 
-digit-code-requires : tie.Need-digit-code-requires
-digit-code-requires c κs = search needs
-
-slice-write-out : tie.Need-slice-write-out
-slice-write-out c = search needs
-
-digit-code-requires-2 : tie.Need-digit-code-requires-2
-digit-code-requires-2 c κs = search needs
-
-add-out : tie.Need-add-out
-add-out c = search needs
-
 slice-write-out-2 : tie.Need-slice-write-out-2
 slice-write-out-2 c = simp length-set (omega arith)
-
-add-result : tie.Need-add-result
-add-result c = search needs
-
-same-length : tie.Need-same-length
-same-length c = search needs
 
 returns : tie.Need-returns
 returns c =
@@ -36,11 +18,5 @@ pub put-byte-spec : {M : Type 1} → statement M
 put-byte-spec =
     tie.close
     (tie.spec
-    digit-code-requires
-    slice-write-out
-    digit-code-requires-2
-    add-out
-    slice-write-out-2
-    add-result
-    same-length
-    returns)
+    (λ c κs. search needs) (λ c. search needs) (λ c κs. search needs) (λ c. search needs) slice-write-out-2
+    (λ c. search needs) (λ c. search needs) returns)

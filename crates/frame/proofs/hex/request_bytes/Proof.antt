@@ -37,23 +37,12 @@ add-byte-value c = omega arith
 shared-slice-read-byte-value-2 : tie.Need-shared-slice-read-byte-value-2 Inv-loop μ-loop
 shared-slice-read-byte-value-2 c = omega arith
 
-byte-value-requires : tie.Need-byte-value-requires Inv-loop μ-loop
-byte-value-requires c κs = search needs
-
-enum-known-b : tie.Need-enum-known-b Inv-loop μ-loop
-enum-known-b c = search needs
-
-enum-told : tie.Need-enum-told Inv-loop μ-loop
-enum-told c = search needs
-
-same-length : tie.Need-same-length Inv-loop μ-loop
-same-length c = search needs
-
 returns-3 : tie.Need-returns-3 Inv-loop μ-loop
 returns-3 c =
     let k = c .before .before in
     let l = k .before .before .before .before in
-    refused-digit (l .loop .inv) (omega arith) (l .before .before .if1 .left) (sym (k .byte-value .ensures) ∙ ap ofByte (c .enum-told .given .1))
+    let t = l .before in
+    refused-digit (l .loop .inv) (omega arith) (t .before .if1 .left) (t .if2 .left) (sym (k .byte-value .ensures) ∙ ap ofByte (c .enum-told .given .1))
 
 slice-write-out : tie.Need-slice-write-out Inv-loop μ-loop
 slice-write-out c = omega arith
@@ -83,24 +72,10 @@ pub request-bytes-spec : {M : Type 1} → statement M
 request-bytes-spec =
     tie.close
     (tie.spec
-    Inv-loop
-    μ-loop
-    returns
+    Inv-loop μ-loop returns
     returns-2
-    loop-holds
-    mul-byte-value
-    shared-slice-read-byte-value
-    mul-byte-value-2
-    add-byte-value
-    shared-slice-read-byte-value-2
-    byte-value-requires
-    enum-known-b
-    enum-told
-    same-length
-    returns-3
-    slice-write-out
-    add-i
-    loop-less
-    loop-again
-    same-length-2
-    returns-4)
+    loop-holds mul-byte-value shared-slice-read-byte-value mul-byte-value-2 add-byte-value
+    shared-slice-read-byte-value-2 (λ c κs. search needs) (λ c. search needs) (λ c. search needs)
+    (λ c. search needs) returns-3
+    slice-write-out add-i loop-less loop-again
+    same-length-2 returns-4)

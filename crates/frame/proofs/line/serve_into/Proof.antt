@@ -6,28 +6,10 @@ use borrow.Author.Needs.{needs}
 use Rattle.frame.proofs.line.serve_into.Statement.{statement}
 use Rattle.frame.proofs.line.serve_into.Tie as tie
 
-serve-frame-requires : tie.Need-serve-frame-requires
-serve-frame-requires c κs = search needs
-
 put-refusal-requires : tie.Need-put-refusal-requires
 put-refusal-requires c κs =
     let k = c .before .before .before .before .before .before .before .before .before .before .before in
     (number-small _ _ (k .serve-frame .ensures), omega (arith, k .before .before .before .before .before .before .before .before .before .before .before .pre .1))
-
-same-length : tie.Need-same-length
-same-length c = search needs
-
-same-length-2 : tie.Need-same-length-2
-same-length-2 c = search needs
-
-same-length-3 : tie.Need-same-length-3
-same-length-3 c = search needs
-
-same-length-4 : tie.Need-same-length-4
-same-length-4 c = search needs
-
-same-length-5 : tie.Need-same-length-5
-same-length-5 c = search needs
 
 returns : tie.Need-returns
 returns c =
@@ -46,21 +28,6 @@ put-hex-requires c κs =
     let k = c .before .before .before .before .before .before .before .before .before .before .before .before in
     digits-fit _ _ (k .serve-frame .ensures) (k .before .before .before .before .before .before .before .before .before .before .before .pre .1)
 
-same-length-6 : tie.Need-same-length-6
-same-length-6 c = search needs
-
-same-length-7 : tie.Need-same-length-7
-same-length-7 c = search needs
-
-same-length-8 : tie.Need-same-length-8
-same-length-8 c = search needs
-
-same-length-9 : tie.Need-same-length-9
-same-length-9 c = search needs
-
-same-length-10 : tie.Need-same-length-10
-same-length-10 c = search needs
-
 returns-2 : tie.Need-returns-2
 returns-2 c =
     let p = c .before .before in
@@ -71,20 +38,7 @@ pub serve-into-spec : {M : Type 1} → statement M
 serve-into-spec =
     tie.close
     (tie.spec
-    serve-frame-requires
-    put-refusal-requires
-    same-length
-    same-length-2
-    same-length-3
-    same-length-4
-    same-length-5
-    returns
-    slice-reshare-prefix-put-hex
-    slice-aggregate-put-hex
-    put-hex-requires
-    same-length-6
-    same-length-7
-    same-length-8
-    same-length-9
-    same-length-10
-    returns-2)
+    (λ c κs. search needs) put-refusal-requires (λ c. search needs) (λ c. search needs) (λ c. search needs)
+    (λ c. search needs) (λ c. search needs) returns
+    slice-reshare-prefix-put-hex slice-aggregate-put-hex put-hex-requires (λ c. search needs) (λ c. search needs)
+    (λ c. search needs) (λ c. search needs) (λ c. search needs) returns-2)

@@ -41,12 +41,6 @@ plan-requires c κs =
     let s = t .before .before .before .before .before .before .before in
     saved-plannable (s .pre) (omega arith) (k .slot-count .ensures) _ refl
 
-same-length : tie.Need-same-length
-same-length c = search needs
-
-same-length-2 : tie.Need-same-length-2
-same-length-2 c = search needs
-
 returns-2 : tie.Need-returns-2
 returns-2 c =
     let p = c .before .before .before .before .before .before in
@@ -79,18 +73,6 @@ put-bytes-requires c κs =
 grow-requires : tie.Need-grow-requires
 grow-requires c κs = let s = c .before .before .before .before .before .before .before .before .before .before .before .before .before .before .before .before .before .before .before .before .before .before .before .before .before .before in file-inside (s .pre)
 
-same-length-3 : tie.Need-same-length-3
-same-length-3 c = search needs
-
-same-length-4 : tie.Need-same-length-4
-same-length-4 c = search needs
-
-same-length-5 : tie.Need-same-length-5
-same-length-5 c = search needs
-
-same-length-6 : tie.Need-same-length-6
-same-length-6 c = search needs
-
 returns-3 : tie.Need-returns-3
 returns-3 c =
     let w = c .before .before in
@@ -107,21 +89,7 @@ apply-spec =
     tie.close
     (tie.spec
     returns
-    mul-size
-    slice-read-size
-    slot-count-requires
-    array-borrow-prefix-saved
-    slice-aggregate-plan
-    plan-requires
-    same-length
-    same-length-2
-    returns-2
-    array-share-prefix-saved
-    slice-aggregate-put-bytes
-    put-bytes-requires
-    grow-requires
-    same-length-3
-    same-length-4
-    same-length-5
-    same-length-6
-    returns-3)
+    mul-size slice-read-size slot-count-requires array-borrow-prefix-saved slice-aggregate-plan plan-requires
+    (λ c. search needs) (λ c. search needs) returns-2
+    array-share-prefix-saved slice-aggregate-put-bytes put-bytes-requires grow-requires (λ c. search needs)
+    (λ c. search needs) (λ c. search needs) (λ c. search needs) returns-3)

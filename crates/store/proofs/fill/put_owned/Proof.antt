@@ -16,16 +16,10 @@ mul-new-2 c = omega (arith, slot-index (c .before .before .before .before .befor
 shared-slice-read-new : tie.Need-shared-slice-read-new
 shared-slice-read-new c = slot-index (c .before .before .before .before .before .before .pre .0 .1 .1 .slot)
 
-enum-told : tie.Need-enum-told
-enum-told c = search needs
-
 write-slot-requires : tie.Need-write-slot-requires
 write-slot-requires c κs =
     let t = c .before in
     write-asks (t .before .before .before .before .before .before .before .before .pre .0 .1 .1 .slot) (t .enum-told .given .1)
-
-enum-known-act : tie.Need-enum-known-act
-enum-known-act c = search needs
 
 copy-slot-requires : tie.Need-copy-slot-requires
 copy-slot-requires c κs =
@@ -33,34 +27,16 @@ copy-slot-requires c κs =
     let s = t .before .before .before .before .before .before .before .before in
     copy-asks (s .pre .0 .1 .1 .slot) (t .act .given .1) (s .pre .1)
 
-enum-told-2 : tie.Need-enum-told-2
-enum-told-2 c = search needs
-
-enum-told-3 : tie.Need-enum-told-3
-enum-told-3 c = search needs
-
-enum-told-4 : tie.Need-enum-told-4
-enum-told-4 c = search needs
-
 zero-slot-requires : tie.Need-zero-slot-requires
 zero-slot-requires c κs =
     let t = c .before in
     let o = t .before .before .before .before .before .before .before .before .pre .0 .1 .1 in
     cut-asks (o .slot) (t .enum-told4 .given .1) (o .kind)
 
-same-length : tie.Need-same-length
-same-length c = search needs
-
 returns : tie.Need-returns
 returns c =
     let w = c .before .before in
     λ st size h. write-fills (h .slot) (w .before .before .enum-told .given .1) (w .write-slot .ensures)
-
-same-length-2 : tie.Need-same-length-2
-same-length-2 c = search needs
-
-same-length-3 : tie.Need-same-length-3
-same-length-3 c = search needs
 
 returns-2 : tie.Need-returns-2
 returns-2 c =
@@ -73,9 +49,6 @@ returns-3 c = λ st size h. absurd (clone-owns (h .slot) (c .enum-told2 .given .
 returns-4 : tie.Need-returns-4
 returns-4 c = λ st size h. absurd (allocate-owns (h .slot) (c .enum-told3 .given .1) (h .kind))
 
-same-length-4 : tie.Need-same-length-4
-same-length-4 c = search needs
-
 returns-5 : tie.Need-returns-5
 returns-5 c =
     let w = c .before .before in
@@ -85,24 +58,10 @@ pub put-owned-spec : {M : Type 1} → statement M
 put-owned-spec =
     tie.close
     (tie.spec
-    mul-new
-    add-new
-    mul-new-2
-    shared-slice-read-new
-    enum-told
-    write-slot-requires
-    enum-known-act
-    copy-slot-requires
-    enum-told-2
-    enum-told-3
-    enum-told-4
-    zero-slot-requires
-    same-length
-    returns
-    same-length-2
-    same-length-3
-    returns-2
+    mul-new add-new mul-new-2 shared-slice-read-new (λ c. search needs) write-slot-requires (λ c. search needs)
+    copy-slot-requires (λ c. search needs) (λ c. search needs) (λ c. search needs) zero-slot-requires
+    (λ c. search needs) returns
+    (λ c. search needs) (λ c. search needs) returns-2
     returns-3
     returns-4
-    same-length-4
-    returns-5)
+    (λ c. search needs) returns-5)

@@ -8,9 +8,6 @@ use Rattle.store.proofs.fill.put_slot.Tie as tie
 kind-of-requires : tie.Need-kind-of-requires
 kind-of-requires c κs = slot-of (c .before .before .before .before .pre .0 .1)
 
-is-owned-requires : tie.Need-is-owned-requires
-is-owned-requires c κs = search needs
-
 returns : tie.Need-returns
 returns c =
     let o = c .before in
@@ -25,12 +22,6 @@ put-owned-requires c κs =
     let s = k .before .before .before .before .before in
     ((s .pre .0 .0, (_, owns-slot (s .pre .0 .1) (k .kind-of .ensures) (sym (o .is-owned .ensures) ∙ not-false _ (i .if1 .left)))), s .pre .1)
 
-same-length : tie.Need-same-length
-same-length c = search needs
-
-same-length-2 : tie.Need-same-length-2
-same-length-2 c = search needs
-
 returns-2 : tie.Need-returns-2
 returns-2 c =
     let w = c .before .before .before .before in
@@ -43,10 +34,5 @@ pub put-slot-spec : {M : Type 1} → statement M
 put-slot-spec =
     tie.close
     (tie.spec
-    kind-of-requires
-    is-owned-requires
-    returns
-    put-owned-requires
-    same-length
-    same-length-2
-    returns-2)
+    kind-of-requires (λ c κs. search needs) returns
+    put-owned-requires (λ c. search needs) (λ c. search needs) returns-2)

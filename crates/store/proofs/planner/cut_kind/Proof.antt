@@ -3,9 +3,6 @@ use borrow.Author.Needs.{needs}
 use Rattle.store.proofs.planner.cut_kind.Statement.{statement}
 use Rattle.store.proofs.planner.cut_kind.Tie as tie
 
-slot-whole-requires : tie.Need-slot-whole-requires
-slot-whole-requires c κs = search needs
-
 returns : tie.Need-returns
 returns c = rw (← c .before .slot-whole .ensures, c .if1 .taken)
 
@@ -16,4 +13,9 @@ returns-3 : tie.Need-returns-3
 returns-3 c = rw (← c .before .before .slot-whole .ensures, c .before .if1 .left, ne-eqb _ _ (c .if2 .left))
 
 pub cut-kind-spec : {M : Type 1} → statement M
-cut-kind-spec = tie.close (tie.spec slot-whole-requires returns returns-2 returns-3)
+cut-kind-spec =
+    tie.close
+    (tie.spec
+    (λ c κs. search needs) returns
+    returns-2
+    returns-3)

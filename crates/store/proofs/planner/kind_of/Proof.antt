@@ -4,15 +4,6 @@ use Rattle.store.proofs.KindLaws.{edit-room, clone-room, kind-write, ki
 use Rattle.store.proofs.planner.kind_of.Statement.{statement}
 use Rattle.store.proofs.planner.kind_of.Tie as tie
 
-enum-told : tie.Need-enum-told
-enum-told c = search needs
-
-enum-told-2 : tie.Need-enum-told-2
-enum-told-2 c = search needs
-
-enum-known-act : tie.Need-enum-known-act
-enum-known-act c = search needs
-
 mul-t9 : tie.Need-mul-t9
 mul-t9 c =
     let s = c .before .before .before .before .before in
@@ -29,19 +20,10 @@ add-t11 c =
 div-t12 : tie.Need-div-t12
 div-t12 c = edit-room (c .before .before .before .before .before .before .before .before .before .pre .edit) .pos
 
-sub-t13 : tie.Need-sub-t13
-sub-t13 c = search needs
-
 add-t14 : tie.Need-add-t14
 add-t14 c =
     let s = c .before .before .before .before .before .before .before .before .before in
     omega (arith, clone-room (s .pre) (c .before .before .before .before .before .before .before .act .given .1), edit-room (s .pre .edit))
-
-enum-told-3 : tie.Need-enum-told-3
-enum-told-3 c = search needs
-
-enum-told-4 : tie.Need-enum-told-4
-enum-told-4 c = search needs
 
 cut-kind-requires : tie.Need-cut-kind-requires
 cut-kind-requires c κs =
@@ -67,19 +49,8 @@ pub kind-of-spec : {M : Type 1} → statement M
 kind-of-spec =
     tie.close
     (tie.spec
-    enum-told
-    enum-told-2
-    enum-known-act
-    mul-t9
-    div-t10
-    add-t11
-    div-t12
-    sub-t13
-    add-t14
-    enum-told-3
-    enum-told-4
-    cut-kind-requires
-    returns
+    (λ c. search needs) (λ c. search needs) (λ c. search needs) mul-t9 div-t10 add-t11 div-t12 (λ c. search needs)
+    add-t14 (λ c. search needs) (λ c. search needs) cut-kind-requires returns
     returns-2
     returns-3
     returns-4

@@ -28,9 +28,6 @@ add-pass-slot c =
     let s = l .before .before .before .before .before in
     omega (arith, l .loop .inv .within, edit-room (s .pre .edit), good _ (s .pre .edit .geometry))
 
-mul-pass-slot : tie.Need-mul-pass-slot Inv-loop μ-loop
-mul-pass-slot c = search needs
-
 shared-slice-read-pass-slot : tie.Need-shared-slice-read-pass-slot Inv-loop μ-loop
 shared-slice-read-pass-slot c = omega arith
 
@@ -92,20 +89,7 @@ pub pass-spec : {M : Type 1} → statement M
 pass-spec =
     tie.close
     (tie.spec
-    Inv-loop
-    μ-loop
-    div-from
-    loop-holds
-    add-pass-slot
-    mul-pass-slot
-    shared-slice-read-pass-slot
-    pass-slot-requires
-    same-length
-    same-length-2
-    returns
-    add-j
-    loop-less
-    loop-again
-    same-length-3
-    same-length-4
-    returns-2)
+    Inv-loop μ-loop div-from loop-holds add-pass-slot (λ c. search needs) shared-slice-read-pass-slot
+    pass-slot-requires same-length same-length-2 returns
+    add-j loop-less loop-again
+    same-length-3 same-length-4 returns-2)

@@ -6,12 +6,6 @@ use borrow.Author.Needs.{needs}
 use Rattle.store.proofs.planner.pass_slot.Statement.{statement}
 use Rattle.store.proofs.planner.pass_slot.Tie as tie
 
-kind-of-requires : tie.Need-kind-of-requires
-kind-of-requires c κs = search needs
-
-in-pass-requires : tie.Need-in-pass-requires
-in-pass-requires c κs = search needs
-
 returns : tie.Need-returns
 returns c =
     let n = c .before in
@@ -30,12 +24,6 @@ change-slot-requires c κs =
     let s = k .before .before .before in
     (s .pre .1 .0, (omega (arith, s .pre .0 .to, edit-room (s .pre .0 .edit), s .pre .1 .1), rw (s .pre .1 .1) (k .kind-of .ensures .inside)))
 
-same-length : tie.Need-same-length
-same-length c = search needs
-
-same-length-2 : tie.Need-same-length-2
-same-length-2 c = search needs
-
 returns-2 : tie.Need-returns-2
 returns-2 c =
     let o = c .before .before .before .before in
@@ -47,12 +35,5 @@ pub pass-slot-spec : {M : Type 1} → statement M
 pass-slot-spec =
     tie.close
     (tie.spec
-    kind-of-requires
-    in-pass-requires
-    returns
-    mul-change-slot
-    add-change-slot
-    change-slot-requires
-    same-length
-    same-length-2
-    returns-2)
+    (λ c κs. search needs) (λ c κs. search needs) returns
+    mul-change-slot add-change-slot change-slot-requires (λ c. search needs) (λ c. search needs) returns-2)

@@ -20,17 +20,8 @@ add-end c = let s = c .before .before .before .before .before in omega (arith, e
 mul-save-words : tie.Need-mul-save-words
 mul-save-words c = let s = c .before .before .before .before .before .before in omega (arith, edit-room (s .pre .edit), edit-inside (s .pre), s .pre .saves)
 
-sub-save-words : tie.Need-sub-save-words
-sub-save-words c = search needs
-
-part-save-words-start : tie.Need-part-save-words-start
-part-save-words-start c = search needs
-
 part-save-words-end : tie.Need-part-save-words-end
 part-save-words-end c = let s = c .before .before .before .before .before .before .before in omega (arith, edit-room (s .pre .edit), edit-inside (s .pre), s .pre .saves)
-
-save-words-requires : tie.Need-save-words-requires
-save-words-requires c κs = search needs
 
 pass-requires : tie.Need-pass-requires
 pass-requires c κs =
@@ -53,15 +44,6 @@ undo-requires c κs =
     let s = k .before .before .before .before .before .before .before .before .before in
     undo-ready (saved-ready (s .pre) _ (k .save-words .kept .0)) (s .pre .saves) (k .save-words .ensures) (p .pass .ensures) (q .pass2 .ensures) (p .pass .kept .1 .1 .0) (q .pass2 .kept .1 .1 .0)
 
-same-length : tie.Need-same-length
-same-length c = search needs
-
-same-length-2 : tie.Need-same-length-2
-same-length-2 c = search needs
-
-same-length-3 : tie.Need-same-length-3
-same-length-3 c = search needs
-
 returns : tie.Need-returns
 returns c =
     let u = c .before .before .before .before in
@@ -80,15 +62,6 @@ settle-requires c κs =
     let s = k .before .before .before .before .before .before .before .before .before in
     undo-ready (saved-ready (s .pre) _ (k .save-words .kept .0)) (s .pre .saves) (k .save-words .ensures) (p .pass .ensures) (q .pass2 .ensures) (p .pass .kept .1 .1 .0) (q .pass2 .kept .1 .1 .0)
 
-same-length-4 : tie.Need-same-length-4
-same-length-4 c = search needs
-
-same-length-5 : tie.Need-same-length-5
-same-length-5 c = search needs
-
-same-length-6 : tie.Need-same-length-6
-same-length-6 c = search needs
-
 returns-2 : tie.Need-returns-2
 returns-2 c =
     let u = c .before .before .before .before in
@@ -103,24 +76,7 @@ pub plan-spec : {M : Type 1} → statement M
 plan-spec =
     tie.close
     (tie.spec
-    mul-i
-    div-i
-    add-i
-    add-end
-    mul-save-words
-    sub-save-words
-    part-save-words-start
-    part-save-words-end
-    save-words-requires
-    pass-requires
-    pass-requires-2
-    undo-requires
-    same-length
-    same-length-2
-    same-length-3
-    returns
-    settle-requires
-    same-length-4
-    same-length-5
-    same-length-6
-    returns-2)
+    mul-i div-i add-i add-end mul-save-words (λ c. search needs) (λ c. search needs) part-save-words-end
+    (λ c κs. search needs) pass-requires pass-requires-2 undo-requires (λ c. search needs) (λ c. search needs)
+    (λ c. search needs) returns
+    settle-requires (λ c. search needs) (λ c. search needs) (λ c. search needs) returns-2)

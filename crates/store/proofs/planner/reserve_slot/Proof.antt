@@ -4,12 +4,6 @@ use borrow.Author.Needs.{needs}
 use Rattle.store.proofs.planner.reserve_slot.Statement.{statement}
 use Rattle.store.proofs.planner.reserve_slot.Tie as tie
 
-mul-w : tie.Need-mul-w
-mul-w c = search needs
-
-slice-read-w : tie.Need-slice-read-w
-slice-read-w c = search needs
-
 mul-w-2 : tie.Need-mul-w-2
 mul-w-2 c =
     let a = c .before .before .before .args in
@@ -25,16 +19,12 @@ set-word-requires c κs =
     let s = c .before .before .before .before .before in
     (s .pre .0, (s .pre .1, omega (arith, s .pre .0 .pool (s .args .i))))
 
-same-length : tie.Need-same-length
-same-length c = search needs
-
-same-length-2 : tie.Need-same-length-2
-same-length-2 c = search needs
-
 returns : tie.Need-returns
 returns c = changed-reserved (c .before .before .before .before .set-word .ensures)
 
 pub reserve-slot-spec : {M : Type 1} → statement M
 reserve-slot-spec =
     tie.close
-    (tie.spec mul-w slice-read-w mul-w-2 add-w set-word-requires same-length same-length-2 returns)
+    (tie.spec
+    (λ c. search needs) (λ c. search needs) mul-w-2 add-w set-word-requires (λ c. search needs)
+    (λ c. search needs) returns)

@@ -8,7 +8,7 @@ returns : tie.Need-returns
 returns c =
     let k = c .before in
     let s = k .before .before .before .before .before in
-    survey-words _ _ _ (s .pre) _ (k .words-formed .ensures) _ (c .if1 .taken)
+    survey-words _ _ _ (s .pre) _ (k .words-formed .ensures) (c .if1 .taken)
 
 files-sound-requires : tie.Need-files-sound-requires
 files-sound-requires c κs =
@@ -22,7 +22,7 @@ returns-2 c =
     let t = f .before in
     let k = t .before in
     let s = k .before .before .before .before .before in
-    survey-files _ _ _ (s .pre) _ (k .words-formed .ensures) (t .if1 .left) _ (f .files-sound .ensures) _ (c .if2 .taken)
+    survey-files _ _ _ (s .pre) _ (k .words-formed .ensures) (t .if1 .left) _ (f .files-sound .ensures) (c .if2 .taken)
 
 tally-requires : tie.Need-tally-requires
 tally-requires c κs =

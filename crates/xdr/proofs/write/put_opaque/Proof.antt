@@ -5,24 +5,6 @@ use borrow.Author.Needs.{needs}
 use Rattle.xdr.proofs.write.put_opaque.Statement.{statement}
 use Rattle.xdr.proofs.write.put_opaque.Tie as tie
 
-cast-put-u32 : tie.Need-cast-put-u32
-cast-put-u32 c = search needs
-
-put-u32-requires : tie.Need-put-u32-requires
-put-u32-requires c κs = search needs
-
-put-bytes-requires : tie.Need-put-bytes-requires
-put-bytes-requires c κs = search needs
-
-padding-requires : tie.Need-padding-requires
-padding-requires c κs = search needs
-
-put-zeros-requires : tie.Need-put-zeros-requires
-put-zeros-requires c κs = search needs
-
-same-length : tie.Need-same-length
-same-length c = search needs
-
 returns : tie.Need-returns
 unfolding opaque
 returns c =
@@ -37,10 +19,5 @@ pub put-opaque-spec : {M : Type 1} → statement M
 put-opaque-spec =
     tie.close
     (tie.spec
-    cast-put-u32
-    put-u32-requires
-    put-bytes-requires
-    padding-requires
-    put-zeros-requires
-    same-length
-    returns)
+    (λ c. search needs) (λ c κs. search needs) (λ c κs. search needs) (λ c κs. search needs)
+    (λ c κs. search needs) (λ c. search needs) returns)

@@ -11,11 +11,13 @@ returns c = let a = c .before .args in sym (past (a .n) (a .s .now) (a .self .at
 returns-2 : tie.Need-returns-2
 returns-2 c = let a = c .before .before .args in sym (cut (a .n) (a .s .now) (a .self .at) (omega arith) (omega arith))
 
-add-t7 : tie.Need-add-t7
-add-t7 c = search needs
-
 returns-3 : tie.Need-returns-3
 returns-3 c = let a = c .before .before .args in sym (there (a .n) (a .s .now) (a .self .at) (omega arith))
 
 pub fixed-spec : {M : Type 1} → statement M
-fixed-spec = tie.close (tie.spec returns returns-2 add-t7 returns-3)
+fixed-spec =
+    tie.close
+    (tie.spec
+    returns
+    returns-2
+    (λ c. search needs) returns-3)

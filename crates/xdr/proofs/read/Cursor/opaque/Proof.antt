@@ -8,36 +8,12 @@ use borrow.Author.Needs.{needs}
 use Rattle.xdr.proofs.read.Cursor.opaque.Statement.{statement}
 use Rattle.xdr.proofs.read.Cursor.opaque.Tie as tie
 
-up-to-requires : tie.Need-up-to-requires
-up-to-requires c κs = search needs
-
-enum-known-w : tie.Need-enum-known-w
-enum-known-w c = search needs
-
-enum-told : tie.Need-enum-told
-enum-told c = search needs
-
-place-requires : tie.Need-place-requires
-place-requires c κs = search needs
-
 returns : tie.Need-returns
 returns c =
     let t = c .before in
     let k = t .before .before in
     ap fault (c .place .ensures ∙ ap (λ (w : Word). stop (ofWord w)) (t .enum-told .given .1))
     ∙ sym (opaque-length _ _ _ _ (sym (k .up-to .ensures) ∙ ap ofWord (t .enum-told .given .1)))
-
-cast-len : tie.Need-cast-len
-cast-len c = search needs
-
-fixed-requires : tie.Need-fixed-requires
-fixed-requires c κs = search needs
-
-enum-known-b : tie.Need-enum-known-b
-enum-known-b c = search needs
-
-enum-told-2 : tie.Need-enum-told-2
-enum-told-2 c = search needs
 
 returns-2 : tie.Need-returns-2
 returns-2 c =
@@ -46,12 +22,6 @@ returns-2 c =
     let k = w .before .before in
     ap ofBytes (c .enum-told2 .given .1)
     ∙ sym (opaque-bytes _ _ _ _ _ _ (sym (k .up-to .ensures) ∙ ap ofWord (w .w .given .1)) (sym (f .fixed .ensures) ∙ ap ofBytes (c .enum-told2 .given .1)))
-
-padding-requires : tie.Need-padding-requires
-padding-requires c κs = search needs
-
-padded-requires : tie.Need-padded-requires
-padded-requires c κs = search needs
 
 returns-3 : tie.Need-returns-3
 returns-3 c =
@@ -68,16 +38,6 @@ pub opaque-spec : {M : Type 1} → statement M
 opaque-spec =
     tie.close
     (tie.spec
-    up-to-requires
-    enum-known-w
-    enum-told
-    place-requires
-    returns
-    cast-len
-    fixed-requires
-    enum-known-b
-    enum-told-2
-    returns-2
-    padding-requires
-    padded-requires
-    returns-3)
+    (λ c κs. search needs) (λ c. search needs) (λ c. search needs) (λ c κs. search needs) returns
+    (λ c. search needs) (λ c κs. search needs) (λ c. search needs) (λ c. search needs) returns-2
+    (λ c κs. search needs) (λ c κs. search needs) returns-3)

@@ -5,15 +5,6 @@ use borrow.Author.Needs.{needs}
 use Rattle.xdr.proofs.read.Cursor.up_to.Statement.{statement}
 use Rattle.xdr.proofs.read.Cursor.up_to.Tie as tie
 
-word-requires : tie.Need-word-requires
-word-requires c κs = search needs
-
-enum-known-w : tie.Need-enum-known-w
-enum-known-w c = search needs
-
-enum-told : tie.Need-enum-told
-enum-told c = search needs
-
 returns : tie.Need-returns
 returns c =
     let k = c .before .before in
@@ -30,4 +21,9 @@ returns-3 c =
     sym (bound-in _ _ _ _ _ (sym (w .before .before .word .ensures) ∙ ap ofWord (w .w .given .1)) (c .if1 .left))
 
 pub up-to-spec : {M : Type 1} → statement M
-up-to-spec = tie.close (tie.spec word-requires enum-known-w enum-told returns returns-2 returns-3)
+up-to-spec =
+    tie.close
+    (tie.spec
+    (λ c κs. search needs) (λ c. search needs) (λ c. search needs) returns
+    returns-2
+    returns-3)

@@ -11,15 +11,10 @@ use lib.ListN.{length, getD, drop, replicate, drop-of-length-le}
 use lib.Seq.{drop-cons}
 use lib.Dec.{leb, ltb, eqb}
 use Rattle.xdr.specs.Bytes.{Written}
-use Rattle.xdr.specs.Encode.{u32}
+use Rattle.xdr.proofs.BytesLaws.{length-splice, written-then}
 use Rattle.rules.specs.Store.{Geometry, Store}
-use Rattle.rules.specs.Operation.{bad}
-use Rattle.rules.specs.Run.{overlap, uneven, sameBytes, zeroStateid, readStateid, failed}
-use Rattle.tables.specs.Tables.{TableTrue}
+use Rattle.rules.specs.Run.{overlap, uneven, sameBytes, zeroStateid, readStateid}
 use Rattle.rules.proofs.BoolLaws.{and-both}
-use Rattle.compound.specs.declared.run.Progress.{Progress}
-use Rattle.compound.specs.Runner.{fileIn, stateOf, Turned}
-use Rattle.compound.proofs.RunLaws.{bare-written}
 
 -- ---- a test is known by its two answers
 
@@ -141,18 +136,3 @@ both-false b e h = rw (sym e ∙ h)
 
 pub both-second : {a b t r : Bool} → t ≡ a → t ≡ true → r ≡ b → r ≡ a && b
 both-second e h q = rw (sym e ∙ h) q
-
--- ---- what does not decode
-
-pub stopped : {number status : ℕ} {r r′ : Progress} {before reply : List ℕ} → r′ .status ≡ status → r′ .count ≡ r .count + 1 → r′ .read ≡ r .read
-    → r′ .current ≡ r .current → r′ .saved ≡ r .saved → Written (u32 number ++ u32 status) 8 (r .out) before reply (r′ .out)
-    → (st : Store) (counts : List ℕ) → TableTrue (st .words) counts
-    → Turned (failed (bad number status) (stateOf (r .current) (r .saved) st) status) r r′ st counts before reply
-stopped {number} {status} {r} s c a u v w st counts t = record {
-  done = record { status-is = s; sizes-are = refl; words-are = refl; mem-is = refl; counted = t };
-  count-is = c;
-  read-is = a;
-  current-is = ap fileIn u;
-  saved-is = ap fileIn v;
-  written = bare-written (failed (bad number status) (stateOf (r .current) (r .saved) st) status) refl refl refl w;
-}

@@ -1,10 +1,10 @@
 pub mod RunLaws
+pub mod ErrorLaws
+pub mod NumberLaws
 pub mod LeafLaws
-pub mod HandleOps
-pub mod EditOps
-pub mod CloneOps
 pub mod SpliceLaws
 pub mod PieceLaws
 pub mod ReadOps
+pub mod DoesLaws
 pub mod LoopLaws
 pub mod ServeLaws

@@ -6,9 +6,7 @@ use mathlib.Core.Option.{Option, none, some}
 use mathlib.Core.List.{List, [], _∷_, _++_, append-assoc, append-nil}
 use mathlib.Core.Logic.{_≢_}
 use native.Mathlib.Omega.{arith}
-use native.Mathlib.Nat.{add-zero}
-use lib.ListN.{length, length-append, take-append-drop}
-use Rattle.xdr.specs.Bytes.{splice}
+use lib.ListN.{length, length-append}
 use Rattle.xdr.specs.Encode.{concatMap}
 use Rattle.xdr.proofs.BytesLaws.{written-then}
 use Rattle.rules.specs.Store.{Geometry, goodGeometry, Store, sound}
@@ -21,10 +19,10 @@ use Rattle.rules.proofs.SoundLaws.{sound-facts, lengths-test, sound-test}
 use Rattle.rules.proofs.OperationLaws.{Ready, performed}
 use Rattle.rules.proofs.ItemLaws as Items
 use Rattle.rules.proofs.ChainLaws.{Step, decoded, undecoded, step-after, step-known}
-use Rattle.compound.specs.declared.answer.Handle.{Handle}
 use Rattle.compound.specs.declared.run.Progress.{Progress}
-use Rattle.compound.specs.Runner.{stateOf, Known, Runs, eventAt, Turned, RunsAll, RanAll}
+use Rattle.compound.specs.Runner.{stateOf, Known, Runs, eventAt, Turned, started, RunsAll, RanAll}
 use Rattle.compound.proofs.RunLaws.{perform-item}
+use Rattle.compound.proofs.SpliceLaws.{written-none}
 
 -- ---- what stays known
 
@@ -81,7 +79,7 @@ module _ (g : Geometry) (v s : List ℕ) (hv : length v ≡ 8) (x : State) (k : 
   unfolding reached
   bad-stops j e is = refl
 
-  stands-at : Stands g v s x at (eventAt g v x s at)
+  stands-at : Stands g v s x at (eventAt (config g v) x s at)
   unfolding eventAt
   stands-at = go (itemAt s at) refl
     where
@@ -98,7 +96,7 @@ module _ (g : Geometry) (v s : List ℕ) (hv : length v ≡ 8) (x : State) (k : 
         short = step-known g bounds (done o next) .size;
         on = λ h n. reached-at (op o next) e n ∙ reached-from o next (items s n next)
             ∙ ap (from (perform (config g v) x o next) (items s n next)) h
-            ∙ ap (λ i. perform (config g v) x o next ∷ reached (config g v) (perform (config g v) x o next .after) (items s n (placeAfter at i))) (sym (perform-item g v x o next));
+            ∙ ap (λ i. perform (config g v) x o next ∷ reached (config g v) (perform (config g v) x o next .after) (items s n (placeAfter at i))) (sym (perform-item (config g v) x o next));
         off = λ h n. reached-at (op o next) e n ∙ reached-from o next (items s n next)
             ∙ off-by (perform (config g v) x o next) (items s n next) (perform (config g v) x o next .status) h;
       }
@@ -126,21 +124,11 @@ results-end (y ∷ zs) z = ap (λ t. resultBytes y ++ t) (results-end zs z) ∙ 
 -- what came of them, while the run goes on or at its end
 pub record Sofar (st : Store) (at out : ℕ) (before : List ℕ) (zs : List Event) (r : Progress) (after : Store) (reply : List ℕ) : Type 0 where
   pub ran : RanAll zs st at out r after before reply
-  pub place : r .out ≤ out + 2179 * r .count
+  pub place : r .at .at ≤ out + 2179 * r .count
 
-start-sofar : (st : Store) (at out : ℕ) (reply : List ℕ) → out ≤ length reply
-    → Sofar st at out reply [] (record { status = 0; count = 0; read = at; out = out; current = Handle.Nothing; saved = Handle.Nothing }) st reply
-unfolding splice
+start-sofar : (st : Store) (at out : ℕ) (reply : List ℕ) → out ≤ length reply → Sofar st at out reply [] (started at out) st reply
 start-sofar st at out reply h = record {
-  ran = record {
-    status-is = refl;
-    count-is = refl;
-    read-is = refl;
-    sizes-are = refl;
-    words-are = refl;
-    mem-is = refl;
-    written = record { bytes = rw (add-zero out) (sym (take-append-drop out reply)); size = refl; place = omega arith };
-  };
+  ran = record { status-is = refl; count-is = refl; read-is = refl; store-is = refl; written = written-none reply out h };
   place = omega arith;
 }
 
@@ -149,18 +137,16 @@ more-sofar : {st after after′ : Store} {at out : ℕ} {before reply reply′ c
     → Sofar st at out before zs r after reply → out ≤ length before → Turned z r r′ after′ counts reply reply′ → length (resultBytes z) ≤ 2179
     → Sofar st at out before (zs ++ (z ∷ [])) r′ after′ reply′
 more-sofar {st} {after} {after′} {at} {out} {before} zs z {r} {r′} d long t short =
-    let both = written-then long (d .ran .written) (t .written) in
+    let both = written-then long (d .ran .written) (t .answered .written) in
     record {
       ran = record {
-        status-is = t .done .status-is ∙ sym (last-end (λ y. y .status) 0 zs z);
+        status-is = t .answered .status-is ∙ sym (last-end (λ y. y .status) 0 zs z);
         count-is = t .count-is ∙ omega (arith, d .ran .count-is, length-append zs (z ∷ []));
         read-is = t .read-is ∙ ap (λ p. placeAfter p (z .item)) (d .ran .read-is) ∙ sym (place-end at zs z);
-        sizes-are = t .done .sizes-are ∙ ap (λ (u : Store). u .sizes) (sym (last-end (λ y. y .after .store) st zs z));
-        words-are = t .done .words-are ∙ ap (λ (u : Store). u .words) (sym (last-end (λ y. y .after .store) st zs z));
-        mem-is = t .done .mem-is ∙ ap (λ (u : Store). u .mem) (sym (last-end (λ y. y .after .store) st zs z));
+        store-is = ap (λ (x : State). x .store) (t .answered .state-is) ∙ sym (last-end (λ y. y .after .store) st zs z);
         written = rw (results-end zs z) (record { bytes = both .bytes; size = refl; place = both .place ∙ ap (λ n. out + n) (sym (both .size)) });
       };
-      place = omega (arith, d .place, t .written .place, t .count-is, short);
+      place = omega (arith, d .place, t .answered .written .place, t .count-is, short);
     }
 
 -- ---- the loop
@@ -182,90 +168,83 @@ pub record Held (g : Geometry) (v s : List ℕ) (st : Store) (ops at out : ℕ) 
 no-handle : (g : Geometry) (f : ℕ) → _≡_ {A = Option ℕ} none (some f) → f < g .F
 no-handle g f e = absurd (let z : _≡_ {A = ℕ} 0 1 = cc in omega arith)
 
-state-is : {z : Event} {r′ : Progress} {after : Store} {counts before reply : List ℕ} {r : Progress} → Turned z r r′ after counts before reply
-    → z .after ≡ stateOf (r′ .current) (r′ .saved) after
-state-is t = λ i. record {
-  current = sym (t .current-is) i;
-  saved = sym (t .saved-is) i;
-  store = record { sizes = sym (t .done .sizes-are) i; words = sym (t .done .words-are) i; mem = sym (t .done .mem-is) i };
-}
+module _ {g : Geometry} {v s : List ℕ} (hv : length v ≡ 8) {st : Store} {ops : ℕ} {before counts₀ : List ℕ} {r₀ : Progress} (a : RunsAll g s st counts₀ ops before r₀) where
+  pub held-start : Held g v s st ops (r₀ .read) (r₀ .at .at) before (stateOf (r₀ .at) st) counts₀ before r₀
+  held-start =
+      let all : ops ≡ ops - 0 = omega arith in
+      subst (λ (q : Progress). Held g v s st ops (r₀ .read) (r₀ .at .at) before (stateOf (q .at) st) counts₀ before q) (sym (a .start)) (record {
+        zs = [];
+        sofar = start-sofar st (r₀ .read) (r₀ .at .at) before (omega (arith, a .room));
+        left = ap (λ (m : ℕ). reached (config g v) (fresh st) (items s m (r₀ .read))) all;
+        within = omega arith;
+        known = record { shaped = a .shaped; sound = a .sound; current = no-handle g; saved = no-handle g };
+        counted = a .counted;
+        blocks = a .blocks;
+        sizes-long = refl;
+        words-long = refl;
+        mem-long = refl;
+        long = refl;
+      })
 
-module _ {g : Geometry} {v s : List ℕ} {st : Store} {ops at out : ℕ} {before counts₀ : List ℕ} (a : RunsAll g v s st counts₀ ops before out) where
-  pub held-start : Held g v s st ops at out before (fresh st) counts₀ before
-      (record { status = 0; count = 0; read = at; out = out; current = Handle.Nothing; saved = Handle.Nothing })
-  held-start = let all : ops ≡ ops - 0 = omega arith in record {
-    zs = [];
-    sofar = start-sofar st at out before (omega (arith, a .room));
-    left = ap (λ (m : ℕ). reached (config g v) (fresh st) (items s m at)) all;
-    within = omega arith;
-    known = record { shaped = a .shaped; sound = a .sound; current = no-handle g; saved = no-handle g };
-    counted = a .counted;
-    blocks = a .blocks;
-    sizes-long = refl;
-    words-long = refl;
-    mem-long = refl;
-    long = refl;
-  }
-
-  module _ {counts reply : List ℕ} {r : Progress} {st₁ : Store} (h : Held g v s st ops at out before (stateOf (r .current) (r .saved) st₁) counts reply r) where
-    pub held-runs : r .count < ops → Runs g v s (stateOf (r .current) (r .saved) st₁) counts reply (r .out) × (r .count < 12)
+  module _ {counts reply : List ℕ} {r : Progress} {st₁ : Store} (h : Held g v s st ops (r₀ .read) (r₀ .at .at) before (stateOf (r .at) st₁) counts reply r) where
+    pub held-runs : r .count < ops → Runs g s (stateOf (r .at) st₁) counts reply (r .at .at) × (r .count < 12)
     held-runs l = (
       record {
         known = h .known;
         counted = h .counted;
         blocks = h .blocks;
-        verifier = a .verifier;
         request = a .request;
         room = omega (arith, a .room, a .few, h .sofar .place, h .long, l);
       },
       omega (arith, a .few, l),
     )
 
-    pub held-end : ops ≤ r .count → RanAll (reached (config g v) (fresh st) (items s ops at)) st at out r st₁ before reply
+    pub held-end : ops ≤ r .count → RanAll (reached (config g v) (fresh st) (items s ops (r₀ .read))) st (r₀ .read) (r₀ .at .at) r st₁ before reply
     unfolding items reached
     held-end l =
         let none-left : ops - r .count ≡ 0 = omega arith in
         rw (h .left, none-left, append-nil (h .zs)) (h .sofar .ran)
 
     module _ (l : r .count < ops) {r′ : Progress} {after : Store} {counts′ reply′ : List ℕ}
-        (t : Turned (eventAt g v (stateOf (r .current) (r .saved) st₁) s (r .read)) r r′ after counts′ reply reply′) where
+        (t : Turned (eventAt (config g v) (stateOf (r .at) st₁) s (r .read)) r r′ after counts′ reply reply′) where
       abbrev z : Event
-      z = eventAt g v (stateOf (r .current) (r .saved) st₁) s (r .read)
+      z = eventAt (config g v) (stateOf (r .at) st₁) s (r .read)
 
-      stands : Stands g v s (stateOf (r .current) (r .saved) st₁) (r .read) z
-      stands = stands-at g v s (a .verifier) (stateOf (r .current) (r .saved) st₁) (h .known) (r .read)
+      stands : Stands g v s (stateOf (r .at) st₁) (r .read) z
+      stands = stands-at g v s hv (stateOf (r .at) st₁) (h .known) (r .read)
 
       step-left : ops - r .count ≡ suc (ops - r′ .count)
       step-left = omega (arith, l, t .count-is)
 
-      sofar-more : Sofar st at out before (h .zs ++ (z ∷ [])) r′ after reply′
+      sofar-more : Sofar st (r₀ .read) (r₀ .at .at) before (h .zs ++ (z ∷ [])) r′ after reply′
       sofar-more = more-sofar (h .zs) z (h .sofar) (omega (arith, a .room)) t (stands .short)
 
-      pub held-stop : r′ .status ≢ 0 → RanAll (reached (config g v) (fresh st) (items s ops at)) st at out r′ after before reply′
+      pub held-stop : r′ .status ≢ 0 → RanAll (reached (config g v) (fresh st) (items s ops (r₀ .read))) st (r₀ .read) (r₀ .at .at) r′ after before reply′
       held-stop n =
-          let fails : z .status ≢ 0 = λ e. n (t .done .status-is ∙ e) in
-          let all : reached (config g v) (fresh st) (items s ops at) ≡ h .zs ++ (z ∷ []) =
-          h .left ∙ ap (λ m. h .zs ++ reached (config g v) (stateOf (r .current) (r .saved) st₁) (items s m (r .read))) step-left
+          let fails : z .status ≢ 0 = λ e. n (t .answered .status-is ∙ e) in
+          let all : reached (config g v) (fresh st) (items s ops (r₀ .read)) ≡ h .zs ++ (z ∷ []) =
+          h .left ∙ ap (λ m. h .zs ++ reached (config g v) (stateOf (r .at) st₁) (items s m (r .read))) step-left
           ∙ ap (λ y. h .zs ++ y) (stands .off fails (ops - r′ .count)) in
           rw all (sofar-more .ran)
 
       pub held-more : r′ .status ≡ 0 → length (after .sizes) ≡ length (st₁ .sizes) → length (after .words) ≡ length (st₁ .words)
           → length (after .mem) ≡ length (st₁ .mem) → length counts′ ≡ length counts → length reply′ ≡ length reply
-          → Held g v s st ops at out before (stateOf (r′ .current) (r′ .saved) after) counts′ reply′ r′
+          → Held g v s st ops (r₀ .read) (r₀ .at .at) before (stateOf (r′ .at) after) counts′ reply′ r′
       held-more e hs hw hm hc hr =
-          let goes : z .status ≡ 0 = sym (t .done .status-is) ∙ e in
+          let goes : z .status ≡ 0 = sym (t .answered .status-is) ∙ e in
+          let next : z .after ≡ stateOf (r′ .at) after = sym (t .answered .state-is) in
           record {
             zs = h .zs ++ (z ∷ []);
             sofar = sofar-more;
             left =
-                h .left ∙ ap (λ m. h .zs ++ reached (config g v) (stateOf (r .current) (r .saved) st₁) (items s m (r .read))) step-left
+                h .left ∙ ap (λ m. h .zs ++ reached (config g v) (stateOf (r .at) st₁) (items s m (r .read))) step-left
                 ∙ ap (λ y. h .zs ++ y) (stands .on goes (ops - r′ .count))
-                ∙ ap (λ y. h .zs ++ (z ∷ reached (config g v) y (items s (ops - r′ .count) (placeAfter (r .read) (z .item))))) (state-is t)
-                ∙ ap (λ p. h .zs ++ (z ∷ reached (config g v) (stateOf (r′ .current) (r′ .saved) after) (items s (ops - r′ .count) p))) (sym (t .read-is))
-                ∙ sym (append-assoc (h .zs) (z ∷ []) (reached (config g v) (stateOf (r′ .current) (r′ .saved) after) (items s (ops - r′ .count) (r′ .read))));
+                ∙ ap (λ y. h .zs ++ (z ∷ reached (config g v) y (items s (ops - r′ .count) (placeAfter (r .read) (z .item))))) next
+                ∙ ap (λ p. h .zs ++ (z ∷ reached (config g v) (stateOf (r′ .at) after) (items s (ops - r′ .count) p))) (sym (t .read-is))
+                ∙ sym (append-assoc (h .zs) (z ∷ []) (reached (config g v) (stateOf (r′ .at) after) (items s (ops - r′ .count) (r′ .read))));
             within = omega (arith, l, t .count-is);
-            known = subst (Known g) (state-is t) (stands .known);
-            counted = t .done .counted;
+            known = subst (Known g) next (stands .known);
+            counted = t .answered .counted;
             blocks = hc ∙ h .blocks;
             sizes-long = hs ∙ h .sizes-long;
             words-long = hw ∙ h .words-long;

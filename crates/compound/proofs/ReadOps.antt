@@ -1,4 +1,4 @@
--- READ, READ_PLUS and SEEK: the bodies as they are written, and the answers. These operations change nothing.
+-- READ, READ_PLUS, SEEK and GETFH: the bodies as they are written.
 use Prim.Native.Nat.{ℕ, _+_, _-_, _*_, _≤_, _<_, min}
 use mathlib.Core.Path.{_≡_, refl, sym, ap, _∙_}
 use mathlib.Core.Bool.{Bool, true, false, cond, not}
@@ -10,14 +10,14 @@ use borrow.Author.Tests.{lt-ltb, le-ltb, lt-leb, le-leb}
 use lib.ListN.{length, getD, length-append}
 use lib.Dec.{leb, ltb, eqb}
 use Rattle.xdr.specs.Bytes.{splice, Written}
-use Rattle.xdr.specs.Encode.{u32, u64, bool, opaque, opaqueSize, concatMap}
+use Rattle.xdr.specs.Encode.{be, u32, u64, bool, opaque, opaqueSize, concatMap}
 use Rattle.xdr.proofs.BytesLaws.{length-splice, written-then}
 use Rattle.xdr.proofs.EncodeLaws.{length-u32, length-bool}
 use Rattle.rules.specs.Lists.{first}
 use Rattle.rules.specs.Store.{Geometry, Store, sizeOf, bytesFrom, sound}
 use Rattle.rules.specs.Read.{granted, readPieces, seekPlace}
-use Rattle.rules.specs.Operation.{pieceBytes, NXIO, NOFILEHANDLE, BAD-STATEID, UNION-NOTSUPP, Op, READ, READ-PLUS, SEEK, opNumber, readReply, readPlusReply, seekResult, seekReply}
-use Rattle.rules.specs.Run.{State, noFile, fileOf, readStateid, errors, effect, body, perform, config, does, countedAfter}
+use Rattle.rules.specs.Operation.{pieceBytes, readReply, readPlusReply, seekResult, seekReply}
+use Rattle.rules.specs.Run.{fileOf}
 use Rattle.tables.specs.Tables.{TableTrue, Shaped}
 use Rattle.store.specs.Readable.{Placed, Readable}
 use Rattle.compound.specs.Pieces.{PiecesFit, PiecesPut, piecesTo, piecesSize}
@@ -26,10 +26,9 @@ use Rattle.rules.proofs.GeometryLaws.{Good, good, lengths}
 use Rattle.rules.proofs.SoundLaws.{sound-facts}
 use Rattle.rules.proofs.BodyLaws.{read-plus-most}
 use Rattle.compound.proofs.PieceLaws.{length-pieces}
-use Rattle.compound.specs.declared.answer.Handle.{Handle}
-use Rattle.compound.specs.declared.answer.Answer.{Answer}
-use Rattle.compound.specs.Runner.{fileIn, Known, Shows, Done, Bare, Answered}
-use Rattle.compound.proofs.RunLaws.{perform-done, edit-failed, failed-answer, body-answer}
+use Rattle.compound.specs.declared.answer.Position.{Position}
+use Rattle.compound.specs.Runner.{fileIn, stateOf, Known, Shows}
+use Rattle.compound.proofs.RunLaws.{current-known}
 use Rattle.compound.proofs.SpliceLaws.{written-before}
 
 -- written as other bytes that are the same
@@ -128,91 +127,15 @@ module _ {g : Geometry} {st : Store} {f at : ℕ} {reply : List ℕ} (w : Shows 
         written-as (sym (append-assoc bs (u32 count) (concatMap (pieceBytes g st f) (piecesTo g st f off end))) ∙ rw (i, d, c, u .number, same-pieces))
         (written-then (omega (arith, w .room)) v (written-before refl pieces-room (u .written) t))
 
--- ---- the answers
+-- ---- the result
 
--- an operation that asks for a current file and a stateid i that passes for reading, changes nothing, and answers a body on that file; ts
--- are its other errors
-pub record Shown (o : Op) (i : List ℕ) (b : Geometry → Store → ℕ → List ℕ) (ts : Geometry → State → List (Bool × ℕ)) : Type 0 where
-  pub stays : (g : Geometry) (x : State) → effect g x o ≡ x
-  pub errors-are : (g : Geometry) (x : State) → errors g x o ≡ (noFile (x .current), NOFILEHANDLE) ∷ (not (readStateid i), BAD-STATEID) ∷ ts g x
-  pub body-is : (g : Geometry) (v : List ℕ) (x : State) → body g v x o ≡ b g (x .store) (fileOf (x .current))
+-- the file that is shown, and the room for its body behind number and status
+pub shows-there : {g : Geometry} (p : Position) {st : Store} → Known g (stateOf p st) → {f at q : ℕ} {bs before reply : List ℕ} → f ≡ fileOf (fileIn (p .current))
+    → at + 2179 ≤ length before → Written bs 8 at before reply q → Shows g st f reply q
+shows-there p k e h w =
+    record { shaped = k .shaped; sound = k .sound; file = rw e (current-known p k); room = omega (arith, w .place, written-long w (omega (arith, h)), h) }
 
-module _ (i : List ℕ) (off n : ℕ) where
-  pub read-shown : Shown (READ i off n) i (λ g st f. readReply g st f off n) (λ g x. [])
-  unfolding errors effect body does
-  read-shown = record { stays = λ g x. refl; errors-are = λ g x. refl; body-is = λ g v x. refl }
-
-  pub plus-shown : Shown (READ-PLUS i off n) i (λ g st f. readPlusReply g st f off n) (λ g x. [])
-  unfolding errors effect body does
-  plus-shown = record { stays = λ g x. refl; errors-are = λ g x. refl; body-is = λ g v x. refl }
-
-  pub seek-shown : Shown (SEEK i off n) i (λ g st f. seekReply g st f off n) (λ g x. (ltb 1 n, UNION-NOTSUPP) ∷ (leb (sizeOf (x .store) (fileOf (x .current))) off, NXIO) ∷ [])
-  unfolding errors effect body does
-  seek-shown = record { stays = λ g x. refl; errors-are = λ g x. refl; body-is = λ g v x. refl }
-
--- SEEK's first error, by the tests in their order
-module _ (i : List ℕ) (o n : ℕ) where
-  pub seek-stateid : readStateid i ≡ false → (g : Geometry) (x : State) (f : ℕ) → x .current ≡ some f → BAD-STATEID ≡ first (errors g x (SEEK i o n))
-  unfolding errors
-  seek-stateid t g x f h = rw (h, t)
-
-  module _ (t : readStateid i ≡ true) where
-    pub seek-kind : 1 < n → (g : Geometry) (x : State) (f : ℕ) → x .current ≡ some f → UNION-NOTSUPP ≡ first (errors g x (SEEK i o n))
-    unfolding errors
-    seek-kind l g x f h = rw (h, t, lt-ltb 1 n l)
-
-    module _ (l : n ≤ 1) {size : ℕ} (g : Geometry) (x : State) (f : ℕ) (h : x .current ≡ some f) (e : getD (x .store .sizes) f 0 ≡ size) where
-      pub seek-past-end : size ≤ o → NXIO ≡ first (errors g x (SEEK i o n))
-      unfolding errors
-      seek-past-end k = rw (h, t, le-ltb 1 n l, e, le-leb size o k)
-
-      pub seek-clear : o < size → 0 ≡ first (errors g x (SEEK i o n))
-      unfolding errors
-      seek-clear k = rw (h, t, le-ltb 1 n l, e, lt-leb size o k)
-
-module _ {g : Geometry} {x : State} (k : Known g x) where
-  -- the file that is shown, and the room for its body behind number and status
-  pub shows : {f at p : ℕ} {bs before reply : List ℕ} → x .current ≡ some f → at + 2179 ≤ length before → Written bs 8 at before reply p
-      → Shows g (x .store) f reply p
-  shows e h w =
-      record { shaped = k .shaped; sound = k .sound; file = k .current _ e; room = omega (arith, w .place, written-long w (omega (arith, h)), h) }
-
-module _ {o : Op} {i : List ℕ} {b : Geometry → Store → ℕ → List ℕ} {ts : Geometry → State → List (Bool × ℕ)} (s : Shown o i b ts)
-    (g : Geometry) (v : List ℕ) (x : State) (next : ℕ) where
-  current-stays : effect g x o .current ≡ x .current
-  current-stays = ap (λ (y : State). y .current) (s .stays g x)
-
-  saved-stays : effect g x o .saved ≡ x .saved
-  saved-stays = ap (λ (y : State). y .saved) (s .stays g x)
-
-  -- no error: the store is as before, and a sound store's pool is large enough for it
-  unchanged : {counts : List ℕ} → Known g x → first (errors g x o) ≡ 0 → TableTrue (x .store .words) counts → Done (perform (config g v) x o next) 0 (x .store) counts
-  unchanged k e c = rw (perform-done g v x o next e (rw (s .stays g x, countedAfter) (facts (k .shaped) (k .sound) .room)), s .stays g x)
-      (record { status-is = refl; sizes-are = refl; words-are = refl; mem-is = refl; counted = c })
-
-  module _ {current saved : Handle} (current-is : fileIn current ≡ x .current) (saved-is : fileIn saved ≡ x .saved)
-      {counts : List ℕ} (counted : TableTrue (x .store .words) counts) {at : ℕ} {before reply : List ℕ} where
-    pub shown-failed : {e : ℕ} {r : Answer} → first (errors g x o) ≡ e → e ≢ 0 → Bare (opNumber o) e current saved r at before reply
-        → Answered (perform (config g v) x o next) r (x .store) counts at before reply
-    shown-failed {e} h n d =
-        failed-answer g v x o next current saved current-is saved-is current-stays saved-stays (edit-failed g v x o next (x .store) refl e h n counted) n d
-
-    pub shown-no-file : {r : Answer} → x .current ≡ none → Bare (opNumber o) NOFILEHANDLE current saved r at before reply
-        → Answered (perform (config g v) x o next) r (x .store) counts at before reply
-    shown-no-file h d = shown-failed (rw (s .errors-are g x, h)) (λ q. omega (arith, q)) d
-
-    pub shown-bad-stateid : {f : ℕ} {r : Answer} → x .current ≡ some f → readStateid i ≡ false → Bare (opNumber o) BAD-STATEID current saved r at before reply
-        → Answered (perform (config g v) x o next) r (x .store) counts at before reply
-    shown-bad-stateid h t d = shown-failed (rw (s .errors-are g x, h, t)) (λ q. omega (arith, q)) d
-
-    module _ (k : Known g x) {f : ℕ} (h : x .current ≡ some f) (l : at + 2179 ≤ length before) {p q : ℕ} {mid : List ℕ}
-        (w : Written (u32 (opNumber o) ++ u32 0) 8 at before mid p) (u : Written (b g (x .store) f) (length (b g (x .store) f)) p mid reply q) where
-      pub shown-done : first (errors g x o) ≡ 0
-          → Answered (perform (config g v) x o next) (record { status = 0; next = q; current = current; saved = saved }) (x .store) counts at before reply
-      shown-done e =
-          body-answer g v x o next current saved current-is saved-is current-stays saved-stays (unchanged k e counted) (s .body-is g v x ∙ rw h) (omega (arith, l)) w u
-
-      -- the stateid passes, and there are no other errors
-      pub shown-passed : first (ts g x) ≡ 0 → readStateid i ≡ true
-          → Answered (perform (config g v) x o next) (record { status = 0; next = q; current = current; saved = saved }) (x .store) counts at before reply
-      shown-passed e t = shown-done (rw (s .errors-are g x, t) (ap (λ (y : Option ℕ). cond (noFile y) NOFILEHANDLE (first (ts g x))) h ∙ e))
+-- GETFH: a handle as opaque data, four bytes with no pad
+pub handle-bytes : (f : ℕ) → opaque (u32 f) ≡ u32 4 ++ u32 f
+unfolding opaque u32 be
+handle-bytes f = refl

@@ -1,196 +1,209 @@
--- From the parts of an operation to its answer: the store's promise and the written bytes against the rules' event.
-use Prim.Native.Nat.{ℕ, zero, suc, _+_, _≤_, _<_}
-use mathlib.Core.Path.{_≡_, refl, sym, ap, _∙_}
+-- From the parts of an operation to its answer: what it does and the bytes that were written, against the rules' event.
+use Prim.Native.Nat.{ℕ, zero, suc, _+_, _-_, _^_, _≤_, _<_}
+use mathlib.Core.Path.{_≡_, refl, sym, ap, _∙_, subst}
 use mathlib.Core.Bool.{Bool, true, false, cond}
-use mathlib.Core.Option.{some}
+use mathlib.Core.Option.{Option, none, some}
 use mathlib.Core.List.{List, [], _++_, append-nil, append-assoc}
 use mathlib.Core.Logic.{_≢_}
+use native.Mathlib.Decide.{decLt}
 use native.Mathlib.Omega.{arith}
 use borrow.Author.Tests.{leb-true, leb-false, le-leb, lt-leb}
 use lib.ListN.{length}
-use Rattle.xdr.specs.Bytes.{splice, Written}
+use Rattle.xdr.specs.declared.bytes.Span.{Span}
+use Rattle.xdr.specs.Bytes.{partOf, splice, Written}
 use Rattle.xdr.specs.Encode.{u32}
 use Rattle.xdr.proofs.BytesLaws.{written-then}
 use Rattle.rules.specs.Lists.{first}
 use Rattle.rules.specs.Store.{Geometry, Store, need, fitsPool}
-use Rattle.rules.specs.Operation.{NOSPC, Op, op, opNumber}
-use Rattle.rules.specs.Run.{State, Event, failed, errors, effect, body, countedAfter, perform, config}
-use Rattle.rules.specs.Calls.{itemNumber, resultBytes}
+use Rattle.rules.specs.Edit.{Edit, edited}
+use Rattle.rules.specs.Operation.{NOSPC, Op, Item, op, bad, opNumber, itemAt}
+use Rattle.rules.specs.Run.{State, fileOf, Config, Event, failed, errors, sets, shows, edits, does, effect, body, countedAfter, perform}
+use Rattle.rules.specs.Calls.{itemNumber, resultBytes, placeAfter}
 use Rattle.tables.specs.Tables.{TableTrue}
+use Rattle.store.specs.declared.edit.Edit as Code
 use Rattle.store.specs.EditPromises.{EditKnown, EditPromise, judged}
-use Rattle.compound.specs.declared.answer.Handle.{Handle}
+use Rattle.store.specs.Edits.{Applies}
+use Rattle.rules.proofs.GeometryLaws.{good, lengths, block-pos, file-most}
+use Rattle.rules.proofs.SoundLaws.{sound-facts}
+use Rattle.rules.proofs.OperationLaws.{performed, performed-item}
+use Rattle.compound.specs.declared.answer.Position.{Position}
 use Rattle.compound.specs.declared.answer.Answer.{Answer}
-use Rattle.compound.specs.Runner.{fileIn, Runs, Done, Bare, Answered}
-use Rattle.rules.proofs.OperationLaws.{Performed, nospc, done, performed, refused}
+use Rattle.compound.specs.declared.does.Does.{Does}
+use Rattle.compound.specs.declared.run.Progress.{Progress}
+use Rattle.compound.specs.Runner.{fileIn, stateOf, Known, Named, Runs, Wrote, Answered, eventAt, Turned}
+use Rattle.compound.specs.Does.{AppliesIn}
+
+-- ---- what is known of the state
+
+-- a sound store has room for what it holds
+has-room : {g : Geometry} {x : State} → Known g x → need (x .store .words) ≤ g .N
+has-room {g} {x} k = sound-facts g (block-pos (good g (k .shaped .geometry))) (x .store) (k .shaped .lengths) (k .sound) .room
+
+-- no handle stands for file 0, and there is one
+file-known : (n : ℕ) (u : Option ℕ) → 1 ≤ n → ((f : ℕ) → u ≡ some f → f < n) → fileOf u < n
+file-known n none h k = h
+file-known n (some f) h k = k f refl
+
+module _ {g : Geometry} (p : Position) {st : Store} (k : Known g (stateOf p st)) where
+  pub current-known : fileOf (fileIn (p .current)) < g .F
+  current-known = file-known (g .F) (fileIn (p .current)) (good g (k .shaped .geometry) .files) (k .current)
+
+  pub named : Named g (st .sizes) p
+  named =
+      let long = lengths g st (k .shaped .lengths) .files in
+      record {
+        geometry = k .shaped .geometry;
+        current = omega (arith, current-known, long);
+        saved = omega (arith, file-known (g .F) (fileIn (p .saved)) (good g (k .shaped .geometry) .files) (k .saved), long);
+      }
+
+pub edit-known : {g : Geometry} {s counts reply : List ℕ} (p : Position) {st : Store} {at : ℕ} → Runs g s (stateOf p st) counts reply at
+    → EditKnown g st counts (fileOf (fileIn (p .current)))
+edit-known p r =
+    record { shaped = r .known .shaped; sound = r .known .sound; counted = r .counted; blocks = r .blocks; file = current-known p (r .known) }
 
 -- ---- the rules' event
 
-module _ (g : Geometry) (v : List ℕ) (x : State) (o : Op) (next : ℕ) where
-  pub perform-failed : (e : ℕ) → first (errors g x o) ≡ e → e ≢ 0 → perform (config g v) x o next ≡ failed (op o next) x e
+module _ (c : Config) (x : State) (o : Op) (next : ℕ) where
+  perform-failed : (e : ℕ) → first (errors (c .geometry) x o) ≡ e → e ≢ 0 → perform c x o next ≡ failed (op o next) x e
   unfolding perform
   perform-failed zero h n = absurd (n refl)
   perform-failed (suc e) h n = rw (h, perform)
 
-  pub perform-full : first (errors g x o) ≡ 0 → g .N < need (countedAfter g x o) → perform (config g v) x o next ≡ failed (op o next) x NOSPC
+  perform-full : first (errors (c .geometry) x o) ≡ 0 → fitsPool (c .geometry .N) (countedAfter (c .geometry) x o) ≡ false
+      → perform c x o next ≡ failed (op o next) x NOSPC
   unfolding perform
-  perform-full h l = rw (h, perform) (rw (lt-leb (need (countedAfter g x o)) (g .N) l))
+  perform-full h l = rw (h, perform) (rw l)
 
-  pub perform-done : first (errors g x o) ≡ 0 → need (countedAfter g x o) ≤ g .N
-      → perform (config g v) x o next ≡ record { item = op o next; before = x; status = 0; after = effect g x o; body = body g v x o }
+  perform-done : first (errors (c .geometry) x o) ≡ 0 → fitsPool (c .geometry .N) (countedAfter (c .geometry) x o) ≡ true
+      → perform c x o next ≡ record { item = op o next; before = x; status = 0; after = effect (c .geometry) x o; body = body (c .geometry) (c .verifier) x o }
   unfolding perform
-  perform-done h l = rw (h, perform) (rw (le-leb (need (countedAfter g x o)) (g .N) l))
+  perform-done h l = rw (h, perform) (rw l)
 
-  pub perform-item : perform (config g v) x o next .item ≡ op o next
-  perform-item = go (performed (config g v) x o next)
-    where
-      go : {z : Event} → Performed (config g v) x o next z → z .item ≡ op o next
-      go (refused e h) = refl
-      go (nospc h l) = refl
-      go (done h l) = refl
-
-  pub perform-number : itemNumber (perform (config g v) x o next .item) ≡ opNumber o
-  perform-number = ap itemNumber perform-item
-
-  pub failed-body : (e : ℕ) → e ≢ 0 → e ≡ perform (config g v) x o next .status → perform (config g v) x o next .body ≡ []
-  failed-body e n h = go (performed (config g v) x o next) (λ q. n (h ∙ q))
-    where
-      go : {z : Event} → Performed (config g v) x o next z → z .status ≢ 0 → z .body ≡ []
-      go (refused e h) n = refl
-      go (nospc h l) n = refl
-      go (done h l) n = absurd (n refl)
-
-  pub done-body : 0 ≡ perform (config g v) x o next .status → perform (config g v) x o next .body ≡ body g v x o
-  done-body h = go (performed (config g v) x o next) (sym h)
-    where
-      go : {z : Event} → Performed (config g v) x o next z → z .status ≡ 0 → z .body ≡ body g v x o
-      go (refused e h) n = absurd (omega (arith, n))
-      go (nospc h l) n = absurd (omega (arith, n))
-      go (done h l) n = refl
-
-  -- an operation that leaves a handle
-  pub keeps-current : effect g x o .current ≡ x .current → perform (config g v) x o next .after .current ≡ x .current
-  keeps-current e = go (performed (config g v) x o next)
-    where
-      go : {z : Event} → Performed (config g v) x o next z → z .after .current ≡ x .current
-      go (refused k h) = refl
-      go (nospc h l) = refl
-      go (done h l) = e
-
-  pub keeps-saved : effect g x o .saved ≡ x .saved → perform (config g v) x o next .after .saved ≡ x .saved
-  keeps-saved e = go (performed (config g v) x o next)
-    where
-      go : {z : Event} → Performed (config g v) x o next z → z .after .saved ≡ x .saved
-      go (refused k h) = refl
-      go (nospc h l) = refl
-      go (done h l) = e
-
--- ---- the store's promise
-
-pub edit-known : {g : Geometry} {v s counts reply : List ℕ} {x : State} {at : ℕ} → Runs g v s x counts reply at → (f : ℕ) → x .current ≡ some f
-    → EditKnown g (x .store) counts f
-edit-known r f e =
-    record { shaped = r .known .shaped; sound = r .known .sound; counted = r .counted; blocks = r .blocks; file = r .known .current f e }
-
-module _ (g : Geometry) (v : List ℕ) (x : State) (o : Op) (next : ℕ) (st : Store) (same : x .store ≡ st) where
-  -- an error before the edit
-  pub edit-failed : (e : ℕ) {counts : List ℕ} → first (errors g x o) ≡ e → e ≢ 0 → TableTrue (st .words) counts → Done (perform (config g v) x o next) e st counts
-  edit-failed e h n c = rw (perform-failed g v x o next e h n) (record {
-    status-is = refl;
-    sizes-are = ap (λ (s : Store). s .sizes) (sym same);
-    words-are = ap (λ (s : Store). s .words) (sym same);
-    mem-is = ap (λ (s : Store). s .mem) (sym same);
-    counted = c;
-  })
-
-  module _ (planned : Store) (leaves : effect g x o .store ≡ planned) (clear : first (errors g x o) ≡ 0) {ok : Bool} {after : Store} {counts : List ℕ}
-      (p : EditPromise g st planned ok after counts) where
-    fits-is : (t : Bool) → fitsPool (g .N) (planned .words) ≡ t → judged g st planned ≡ cond t planned st
-    fits-is t e = rw e
-
-    -- the pool is too small
-    pub edit-full : ok ≡ false → Done (perform (config g v) x o next) NOSPC after counts
-    edit-full n =
-        let e : fitsPool (g .N) (planned .words) ≡ false = sym (p .answer) ∙ n in
-        let j : judged g st planned ≡ st = fits-is false e in
-        rw (perform-full g v x o next clear (rw (leaves, countedAfter) (leb-false (need (planned .words)) (g .N) e))) (record {
-          status-is = refl;
-          sizes-are = p .sizes-are ∙ ap (λ (s : Store). s .sizes) (j ∙ sym same);
-          words-are = p .words-are ∙ ap (λ (s : Store). s .words) (j ∙ sym same);
-          mem-is = p .mem-is ∙ ap (λ (s : Store). s .mem) (j ∙ sym same);
-          counted = p .counted;
-        })
-
-    pub edit-done : ok ≡ true → Done (perform (config g v) x o next) 0 after counts
-    edit-done y =
-        let e : fitsPool (g .N) (planned .words) ≡ true = sym (p .answer) ∙ y in
-        let j : judged g st planned ≡ planned = fits-is true e in
-        rw (perform-done g v x o next clear (rw (leaves, countedAfter) (leb-true (need (planned .words)) (g .N) e))) (record {
-          status-is = refl;
-          sizes-are = p .sizes-are ∙ ap (λ (s : Store). s .sizes) (j ∙ sym leaves);
-          words-are = p .words-are ∙ ap (λ (s : Store). s .words) (j ∙ sym leaves);
-          mem-is = p .mem-is ∙ ap (λ (s : Store). s .mem) (j ∙ sym leaves);
-          counted = p .counted;
-        })
-
--- ---- the written bytes
-
--- number, status and body
-pub result-written : (z : Event) {number status n at p q : ℕ} {b before mid reply : List ℕ} → itemNumber (z .item) ≡ number → status ≡ z .status → z .body ≡ b
-    → at ≤ length before → Written (u32 number ++ u32 status) 8 at before mid p → Written b n p mid reply q
-    → Written (resultBytes z) (length (resultBytes z)) at before reply q
-result-written z {number} {status} {n} {at} {p} {q} {b} {before} k s e h w r =
-    let both = written-then h w r in
-    let is : resultBytes z ≡ (u32 number ++ u32 status) ++ b = rw (k, ← s, e) (sym (append-assoc (u32 number) (u32 status) b)) in
-    record {
-      bytes = both .bytes ∙ ap (λ (l : List ℕ). splice before at l) (sym is);
-      size = refl;
-      place = both .place ∙ ap (λ (m : ℕ). at + m) (sym (both .size) ∙ ap length (sym is));
-    }
-
--- and no body
-pub bare-written : (z : Event) {number status at p : ℕ} {before reply : List ℕ} → itemNumber (z .item) ≡ number → status ≡ z .status → z .body ≡ []
-    → Written (u32 number ++ u32 status) 8 at before reply p → Written (resultBytes z) (length (resultBytes z)) at before reply p
-bare-written z {number} {status} {at} {p} {before} k s e w =
-    let is : resultBytes z ≡ u32 number ++ u32 status = rw (k, ← s, e) (ap (λ (l : List ℕ). u32 number ++ l) (append-nil (u32 status))) in
-    record {
-      bytes = w .bytes ∙ ap (λ (l : List ℕ). splice before at l) (sym is);
-      size = refl;
-      place = w .place ∙ ap (λ (m : ℕ). at + m) (sym (w .size) ∙ ap length (sym is));
-    }
+  pub perform-item : perform c x o next .item ≡ op o next
+  perform-item = performed-item (performed c x o next)
 
 -- ---- the answer
 
-module _ (g : Geometry) (v : List ℕ) (x : State) (o : Op) (next : ℕ) (current saved : Handle) (current-is : fileIn current ≡ x .current) (saved-is : fileIn saved ≡ x .saved)
-    (current-stays : effect g x o .current ≡ x .current) (saved-stays : effect g x o .saved ≡ x .saved) {after : Store} {counts : List ℕ} {at : ℕ} {before reply : List ℕ} where
-  -- without a body: it failed, or its body is empty
-  pub bare-answer : {status : ℕ} {r : Answer} → Done (perform (config g v) x o next) status after counts → perform (config g v) x o next .body ≡ []
-      → Bare (opNumber o) status current saved r at before reply → Answered (perform (config g v) x o next) r after counts at before reply
-  bare-answer d e b = record {
-    done = rw (b .status-is) d;
-    current-is = ap fileIn (b .current-is) ∙ current-is ∙ sym (keeps-current g v x o next current-stays);
-    saved-is = ap fileIn (b .saved-is) ∙ saved-is ∙ sym (keeps-saved g v x o next saved-stays);
-    written = bare-written (perform (config g v) x o next) (perform-number g v x o next) (d .status-is) e (b .written);
-  }
+-- number, status and body are the event's, and the state after it is that of the handles p and the tables
+pub answers : {z : Event} {number status : ℕ} {b : List ℕ} {p : Position} {r : Answer} {after : Store} {counts before reply : List ℕ}
+    → itemNumber (z .item) ≡ number → z .status ≡ status → z .body ≡ b → stateOf p after ≡ z .after → TableTrue (after .words) counts
+    → Wrote number status b p r before reply → Answered z r after counts (p .at) before reply
+answers {z} {number} {status} {b} {p} {r} {after} {counts} {before} k e h same t w =
+    let is : (u32 number ++ u32 status) ++ b ≡ resultBytes z = rw (k, e, h) (append-assoc (u32 number) (u32 status) b) in
+    record {
+      status-is = w .status-is ∙ sym e;
+      state-is = (λ i. record { current = fileIn (w .current-is i); saved = fileIn (w .saved-is i); store = after }) ∙ same;
+      counted = t;
+      written = record {
+        bytes = w .written .bytes ∙ ap (λ (l : List ℕ). splice before (p .at) l) is;
+        size = refl;
+        place = w .written .place ∙ ap (λ (m : ℕ). p .at + m) (sym (w .written .size) ∙ ap length is);
+      };
+    }
 
-  pub failed-answer : {status : ℕ} {r : Answer} → Done (perform (config g v) x o next) status after counts → status ≢ 0
-      → Bare (opNumber o) status current saved r at before reply → Answered (perform (config g v) x o next) r after counts at before reply
-  failed-answer {status} d n b = bare-answer d (failed-body g v x o next status n (d .status-is)) b
+module _ (c : Config) (p : Position) (st : Store) (o : Op) (next : ℕ) {number : ℕ} (same : number ≡ opNumber o) where
+  abbrev here : State
+  here = stateOf p st
 
-  -- an operation whose result never has a body
-  pub plain-answer : {status : ℕ} {r : Answer} → Done (perform (config g v) x o next) status after counts → body g v x o ≡ []
-      → Bare (opNumber o) status current saved r at before reply → Answered (perform (config g v) x o next) r after counts at before reply
-  plain-answer {status} d e b = bare-answer d (go status (d .status-is)) b
-    where
-      go : (status : ℕ) → status ≡ perform (config g v) x o next .status → perform (config g v) x o next .body ≡ []
-      go zero h = done-body g v x o next h ∙ e
-      go (suc k) h = failed-body g v x o next (suc k) (λ q. omega (arith, q)) h
+  abbrev z : Event
+  z = perform c here o next
 
-  pub body-answer : {n p q : ℕ} {b mid : List ℕ} → Done (perform (config g v) x o next) 0 after counts → body g v x o ≡ b → at ≤ length before
-      → Written (u32 (opNumber o) ++ u32 0) 8 at before mid p → Written b n p mid reply q
-      → Answered (perform (config g v) x o next) (record { status = 0; next = q; current = current; saved = saved }) after counts at before reply
-  body-answer d e h w r = record {
-    done = d;
-    current-is = current-is ∙ sym (keeps-current g v x o next current-stays);
-    saved-is = saved-is ∙ sym (keeps-saved g v x o next saved-stays);
-    written = result-written (perform (config g v) x o next) (perform-number g v x o next) (d .status-is) (done-body g v x o next (d .status-is) ∙ e) h w r;
-  }
+  module _ {r : Answer} {counts before reply : List ℕ} where
+    -- an error: nothing changes
+    pub answers-failed : {e : ℕ} → e ≡ first (errors (c .geometry) here o) → e ≢ 0 → TableTrue (st .words) counts → Wrote number e [] p r before reply
+        → Answered z r st counts (p .at) before reply
+    answers-failed {e} h n t w = rw (perform-failed c here o next e (sym h) n) (answers (sym same) refl refl refl t w)
+
+  module _ (clear : first (errors (c .geometry) here o) ≡ 0) where
+    module _ (k : Known (c .geometry) here) where
+      fits : fitsPool (c .geometry .N) (st .words) ≡ true
+      fits = le-leb (need (st .words)) (c .geometry .N) (has-room k)
+
+      pub answers-sets : {r : Answer} {counts before reply : List ℕ} → TableTrue (st .words) counts → {q : Position} → Wrote number 0 [] q r before reply
+          → q .at ≡ p .at → sets (fileIn (q .current)) (fileIn (q .saved)) ≡ does (c .geometry) here o → Answered z r st counts (p .at) before reply
+      unfolding effect body
+      answers-sets t w place d =
+          rw (perform-done c here o next clear (rw (← d, countedAfter, effect) fits), ← d, effect, body, ← place)
+          (answers (sym same) refl refl refl t w)
+
+      pub answers-shows : {r : Answer} {counts before reply : List ℕ} → TableTrue (st .words) counts → {b : List ℕ} → Wrote number 0 b p r before reply
+          → shows b ≡ does (c .geometry) here o → Answered z r st counts (p .at) before reply
+      unfolding effect body
+      answers-shows t w d =
+          rw (perform-done c here o next clear (rw (← d, countedAfter, effect) fits), ← d, effect, body)
+          (answers (sym same) refl refl refl t w)
+
+    module _ {e : Edit} {b : List ℕ → List ℕ} (d : edits e b ≡ does (c .geometry) here o) where
+      judged-is : (t : Bool) → fitsPool (c .geometry .N) (edited (c .geometry) st e .words) ≡ t → judged (c .geometry) st (edited (c .geometry) st e) ≡ cond t (edited (c .geometry) st e) st
+      judged-is t q = rw q
+
+      pub answers-edits : {r : Answer} {counts before reply : List ℕ} {ok : Bool} {after : Store} → EditPromise (c .geometry) st (edited (c .geometry) st e) ok after counts
+          → Wrote number (cond ok 0 NOSPC) (cond ok (b (c .verifier)) []) p r before reply → Answered z r after counts (p .at) before reply
+      unfolding effect body
+      answers-edits {r} {counts} {before} {reply} {ok} {after} m w = go ok refl
+        where
+          stays : after ≡ judged (c .geometry) st (edited (c .geometry) st e)
+          stays = λ i. record { sizes = m .sizes-are i; words = m .words-are i; mem = m .mem-is i }
+
+          with-store : {a b : Store} → a ≡ b → stateOf p a ≡ stateOf p b
+          with-store q = ap (λ (u : Store). stateOf p u) q
+
+          go : (t : Bool) → ok ≡ t → Answered z r after counts (p .at) before reply
+          go true q =
+              let f = sym (m .answer) ∙ q in
+              rw (perform-done c here o next clear (rw (← d, countedAfter, effect) f), ← d, effect, body)
+              (answers (sym same) refl refl (with-store (stays ∙ judged-is true f)) (m .counted) (rw q at w))
+          go false q =
+              let f = sym (m .answer) ∙ q in
+              rw (perform-full c here o next clear (rw (← d, countedAfter, effect) f))
+              (answers (sym same) refl refl (with-store (stays ∙ judged-is false f)) (m .counted) (rw q at w))
+
+-- ---- what the store asks of an edit
+
+pub edit-applies : {g : Geometry} (s : List ℕ) {st : Store} {counts part : List ℕ} (r : Does) {e : Code.Edit} {d : Span} → r ≡ Does.Edits e d → part ≡ partOf s d
+    → AppliesIn g s st counts r → Applies g st counts e part
+edit-applies s r is q a = rw q (rw is at a)
+
+pub region-small : {g : Geometry} {st : Store} {counts : List ℕ} {e : Code.Edit} {d : List ℕ} → Applies g st counts e d → e .end - e .off < 2 ^ 32
+region-small {g} {e = e} a = go (decLt (e .off) (e .end))
+  where
+    go : Dec (e .off < e .end) → e .end - e .off < 2 ^ 32
+    go (yes l) = omega (arith, a .fits l, file-most g (good g (a .known .shaped .geometry)))
+    go (no n) = omega (arith, n)
+
+-- ---- one operation of a run
+
+-- the run after an operation that was answered
+pub stepped : (c : Config) (x : State) (o : Op) (r : Progress) {a : Answer} {after : Store} {counts before reply : List ℕ}
+    → Answered (perform c x o (r .read)) a after counts (r .at .at) before reply
+    → Turned (perform c x o (r .read)) r (record { status = a .status; count = r .count + 1; read = r .read; at = a .after }) after counts before reply
+stepped c x o r a = record { answered = a; count-is = refl; read-is = sym (ap (placeAfter (r .read)) (perform-item c x o (r .read))) }
+
+-- what does not decode
+pub stopped : {number status : ℕ} {r : Progress} {a : Answer} {before reply : List ℕ} → Wrote number status [] (r .at) a before reply
+    → (st : Store) (counts : List ℕ) → TableTrue (st .words) counts
+    → Turned (failed (bad number status) (stateOf (r .at) st) status) r (record { status = status; count = r .count + 1; read = r .read; at = a .after }) st counts before reply
+stopped {number} {status} {r} w st counts t = record {
+  answered = rw (w .status-is) at (answers {z = failed (bad number status) (stateOf (r .at) st) status} {after = st} refl refl refl refl t w);
+  count-is = refl;
+  read-is = refl;
+}
+
+-- and after the item i that stands at place `at`
+pub turned : (c : Config) (x : State) (s : List ℕ) (at : ℕ) {i : Item} {r r′ : Progress} {after : Store} {counts before reply : List ℕ}
+    → i ≡ itemAt s at
+    → Turned (elim i [ op o next ↦ perform c x o next | bad k e ↦ failed (bad k e) x e ]) r r′ after counts before reply
+    → Turned (eventAt c x s at) r r′ after counts before reply
+unfolding eventAt
+turned c x s at {i} {r} {r′} {after} {counts} {before} {reply} e t =
+    subst (λ (i : Item). Turned (elim i [ op o next ↦ perform c x o next | bad k e ↦ failed (bad k e) x e ]) r r′ after counts before reply) e t
+
+-- the place behind the operation was set before it was run
+pub read-moved : (c : Config) (x : State) (o : Op) (next : ℕ) (r : Progress) {m r′ : Progress} {after : Store} {counts before reply : List ℕ} → m .at ≡ r .at → m .count ≡ r .count
+    → m .read ≡ next → Turned (perform c x o next) m r′ after counts before reply → Turned (perform c x o next) r r′ after counts before reply
+read-moved c x o next r {m} {r′} {after} {counts} {before} {reply} at-is count-is read-is t = record {
+  answered = subst (λ (q : Position). Answered (perform c x o next) (record { status = r′ .status; after = r′ .at }) after counts (q .at) before reply) at-is (t .answered);
+  count-is = t .count-is ∙ ap (λ (n : ℕ). n + 1) count-is;
+  read-is = t .read-is ∙ ap (placeAfter (m .read)) (perform-item c x o next) ∙ sym (ap (placeAfter (r .read)) (perform-item c x o next));
+}

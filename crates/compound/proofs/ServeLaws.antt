@@ -23,9 +23,9 @@ use Rattle.rules.proofs.SoundLaws.{sound-facts}
 use Rattle.rules.proofs.FirstLaws.{all-clear}
 use Rattle.rules.proofs.ItemLaws.{header-reads}
 use Rattle.rules.proofs.ReplyLaws.{compound-results}
-use Rattle.store.proofs.SurveyKnown.{sound-counted}
+use Rattle.tables.proofs.SurveyLaws.{sound-counted, surveyed-table}
 use Rattle.compound.specs.declared.run.Progress.{Progress}
-use Rattle.compound.specs.Runner.{Serves, RunsAll, RanAll}
+use Rattle.compound.specs.Runner.{Serves, started, RunsAll, RanAll}
 use Rattle.compound.proofs.SpliceLaws.{written-before}
 
 -- ---- the reply
@@ -67,7 +67,7 @@ module _ (g : Geometry) (v s : List ℕ) (st : Store) (buf : List ℕ) (h : Head
       → RanAll (reached (config g v) (fresh st) (items s (h .ops) at)) st at out r after buf mid → out + 26148 ≤ length buf
       → length (concatMap resultBytes (compound (config g v) st s h at)) ≤ 26148
       → Written (replyHead .write (r .status, (h .tag, r .count))) n 0 mid reply w
-      → Gives (served buf st h at (compound (config g v) st s h at)) (record { number = 0; read = r .read; written = r .out; reply = reply; store = after })
+      → Gives (served buf st h at (compound (config g v) st s h at)) (record { number = 0; read = r .read; written = r .at .at; reply = reply; store = after })
   unfolding served replyBytes
   served-some q {out} {n} {w} {r} e run room most head =
       let zs = reached (config g v) (fresh st) (items s (h .ops) at) in
@@ -81,9 +81,9 @@ module _ (g : Geometry) (v s : List ℕ) (st : Store) (buf : List ℕ) (h : Head
         read = run .read-is;
         written = all .1 ∙ ap length (sym is);
         reply = all .0 ∙ ap (λ (l : List ℕ). l ++ drop (length l) buf) (sym is);
-        sizes = run .sizes-are;
-        words = run .words-are;
-        mem = run .mem-is;
+        sizes = ap (λ (u : Store). u .sizes) (run .store-is);
+        words = ap (λ (u : Store). u .words) (run .store-is);
+        mem = ap (λ (u : Store). u .mem) (run .store-is);
       })
 
 -- ---- the refusals
@@ -154,7 +154,7 @@ module _ (g : Geometry) (v s buf : List ℕ) (st : Store) where
 
 -- ---- the survey
 
-module _ {g : Geometry} {st : Store} {counts₀ counts : List ℕ} {number usedIs owedIs : ℕ} (t : TableReady g st counts₀) (r : Surveyed g st number usedIs owedIs counts) where
+module _ {g : Geometry} {st : Store} {counts₀ counts : List ℕ} {number usedIs owedIs : ℕ} (t : TableReady g st counts₀) (r : Surveyed g st counts₀ number usedIs owedIs counts) where
   pub survey-unsound : number ≢ 0 → sound g st ≡ false
   unfolding storeRefusal
   survey-unsound n = go (sound g st) refl
@@ -174,15 +174,14 @@ module _ {g : Geometry} {st : Store} {counts₀ counts : List ℕ} {number usedI
   pub table-long : length counts ≡ length counts₀ → length counts ≡ g .N
   table-long e = e ∙ ap length (t .zero) ∙ length-replicate (g .N) 0
 
-  pub serves-known : {v s reply : List ℕ} → number ≡ 0 → length counts ≡ g .N → length v ≡ 8 → length s ≤ 65536 → 32768 ≤ length reply → Serves g v s st counts reply
-  serves-known z n hv hs hr =
+  pub serves-known : {s reply : List ℕ} → number ≡ 0 → length counts ≡ g .N → length s ≤ 65536 → 32768 ≤ length reply → Serves g s st counts reply
+  serves-known z n hs hr =
       let snd = survey-sound z in
       record {
         shaped = t .shaped;
         sound = snd;
-        counted = sound-counted g st counts (t .shaped) snd (r .table z) n;
+        counted = sound-counted g st counts (t .shaped) snd (surveyed-table g st snd r) n;
         blocks = n;
-        verifier = hv;
         request = hs;
         room = hr;
       }
@@ -197,25 +196,25 @@ few-ops minor ops e =
     ltb-false 12 ops (all-clear ((not (eqb minor 2), MINOR-VERS-MISMATCH) ∷ (ltb 12 ops, TOO-MANY-OPS) ∷ []) refl (sym e) .1 .0)
 
 -- where the run of a compound may start: behind the head
-pub runs-all : {g : Geometry} {v s : List ℕ} {st : Store} {counts reply : List ℕ} → Serves g v s st counts reply → (tag ops : ℕ) → tag ≤ 1024 → ops ≤ 12
-    → RunsAll g v s st counts ops reply (12 + (tag + padBytes tag))
-runs-all k tag ops ht ho = record {
+pub runs-all : {g : Geometry} {s : List ℕ} {st : Store} {counts reply : List ℕ} → Serves g s st counts reply → (tag ops at : ℕ) → tag ≤ 1024 → ops ≤ 12
+    → {r : Progress} → r ≡ started at (12 + (tag + padBytes tag)) → RunsAll g s st counts ops reply r
+runs-all k tag ops at ht ho {r} e = record {
   shaped = k .shaped;
   sound = k .sound;
   counted = k .counted;
   blocks = k .blocks;
-  verifier = k .verifier;
   request = k .request;
   few = ho;
-  room = omega (arith, k .room, ht);
+  start = e ∙ ap (λ (q : Progress). started (q .read) (q .at .at)) (sym e);
+  room = omega (arith, k .room, ht, ap (λ (q : Progress). q .at .at) e);
 }
 
 -- all results of a served compound
-pub results-fit : {g : Geometry} {v s : List ℕ} {st : Store} {counts reply : List ℕ} → Serves g v s st counts reply → (h : Header) (at : ℕ)
+pub results-fit : {g : Geometry} {s : List ℕ} {st : Store} {counts reply : List ℕ} → Serves g s st counts reply → (v : List ℕ) → length v ≡ 8 → (h : Header) (at : ℕ)
     → length (concatMap resultBytes (compound (config g v) st s h at)) ≤ 26148
-results-fit {g} {v} {s} {st} k h at =
+results-fit {g} {s} {st} k v hv h at =
     let d = good g (k .shaped .geometry) in
-    compound-results g d v (k .verifier) st (sound-facts g (block-pos d) st (k .shaped .lengths) (k .sound)) s h at
+    compound-results g d v hv st (sound-facts g (block-pos d) st (k .shaped .lengths) (k .sound)) s h at
 
 -- the results start behind the head
 pub head-place : (tag n p : ℕ) → n ≡ tag → p ≡ padBytes n → 12 + (n + p) ≡ 8 + opaqueSize tag

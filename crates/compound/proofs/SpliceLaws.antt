@@ -1,9 +1,10 @@
--- A part that is written in front of one that already stands.
+-- A part that is written in front of one that already stands, and one of no bytes.
 use Prim.Native.Nat.{ℕ, _+_, _≤_}
-use mathlib.Core.Path.{_≡_, sym, ap, _∙_}
-use mathlib.Core.List.{List, _++_, append-assoc}
+use mathlib.Core.Path.{_≡_, refl, sym, ap, _∙_}
+use mathlib.Core.List.{List, [], _++_, append-assoc}
+use native.Mathlib.Nat.{add-zero}
 use native.Mathlib.Omega.{arith}
-use lib.ListN.{length, take, drop, length-append}
+use lib.ListN.{length, take, drop, length-append, take-append-drop}
 use lib.Seq.{length-take-le, take-append-le, take-take, drop-append-seam}
 use Rattle.xdr.specs.Bytes.{splice, Written}
 
@@ -27,3 +28,8 @@ written-before {a} {b} {n} {m} {at} {p} {q} {r} {x} {y} {z} e h f g = record {
   size = omega (arith, length-append a b, f .size, g .size);
   place = omega (arith, e, f .place);
 }
+
+-- no bytes
+pub written-none : (x : List ℕ) (at : ℕ) → at ≤ length x → Written [] 0 at x x at
+unfolding splice
+written-none x at h = record { bytes = rw (add-zero at) (sym (take-append-drop at x)); size = refl; place = omega arith }

@@ -1,7 +1,12 @@
-// What an operation answers: the handles after it, its status, and the place after its result in the reply.
+// Handles, the place of the next result, and what an operation answers.
+ghost use mathlib.Core.Path.{_≡_};
+ghost use mathlib.Core.List.{[], _++_};
 ghost use Prim.Native.Nat.{_+_, _≤_};
 ghost use lib.ListN.{length};
-ghost use Rattle.compound.specs.Runner.{Bare};
+ghost use Rattle.xdr.specs.Bytes.{Written};
+ghost use Rattle.xdr.specs.Encode.{u32};
+ghost use Rattle.rules.specs.Run.{fileOf};
+ghost use Rattle.compound.specs.Runner.{fileIn, Wrote};
 use wire::put_result;
 
 pub enum Handle {
@@ -9,11 +14,16 @@ pub enum Handle {
     File(usize),
 }
 
-pub struct Answer {
-    pub status: u32,
-    pub next: usize,
+// The two handles, and the place in the reply where the next result goes.
+pub struct Position {
     pub current: Handle,
     pub saved: Handle,
+    pub at: usize,
+}
+
+pub struct Answer {
+    pub status: u32,
+    pub after: Position,
 }
 
 impl Answer {
@@ -40,23 +50,26 @@ impl Answer {
     pub const UNION_NOTSUPP: u32 = 10090;
 }
 
-// A result that has no body, of an operation that leaves the handles.
-pub fn without_body(
-    reply: &mut [u8],
-    at: usize,
-    number: u32,
-    status: u32,
-    current: Handle,
-    saved: Handle,
-) -> Answer
-    requires { ⌜ at + 8 ≤ length (now reply) ⌝ }
-    ensures { λ r. ⌜ Bare number status current saved r at (now (reply .entry)) (now (reply .exit)) ⌝ }
+// The file that a handle names, 0 if it names none.
+pub fn file_of(h: Handle) -> usize
+    ensures { λ r. ⌜ r ≡ fileOf (fileIn h) ⌝ }
 {
-    let next = put_result(reply, at, number, status);
+    match h {
+        Handle::Nothing => 0,
+        Handle::File(f) => f,
+    }
+}
+
+// A result that has no body; the handles after it are p's.
+pub fn without_body(number: u32, status: u32, p: Position, reply: &mut [u8]) -> Answer
+    requires { ⌜ p .at + 8 ≤ length (now reply) ⌝ }
+    ensures { λ r. ⌜ Wrote number status [] p r (now (reply .entry)) (now (reply .exit)) ⌝ }
+{
+    let current = p.current;
+    let saved = p.saved;
+    let at = put_result(reply, p.at, number, status);
     Answer {
         status,
-        next,
-        current,
-        saved,
+        after: Position { current, saved, at },
     }
 }

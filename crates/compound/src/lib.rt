@@ -1,7 +1,9 @@
-// The compound runner: operations run and answered. The rules stand in specs/.
+// The compound runner: operations decoded, run and answered. The rules stand in specs/.
 mod answer;
 mod clones;
+mod does;
 mod edits;
+mod errors;
 mod handles;
 mod pieces;
 mod reads;

@@ -1,27 +1,21 @@
-// READ, READ_PLUS and SEEK.
+// What READ, READ_PLUS, SEEK and GETFH show: the bodies, and the result.
 ghost use mathlib.Core.Path.{_≡_};
-ghost use mathlib.Core.List.{List};
-ghost use mathlib.Core.Option.{some};
-ghost use Prim.Native.Nat.{ℕ, _+_, _-_, _≤_, min};
-ghost use lib.ListN.{length, getD};
+ghost use Prim.Native.Nat.{_+_, _-_, _^_, _<_, _≤_, min};
+ghost use lib.ListN.{length};
 ghost use lib.Dec.{leb};
 ghost use Rattle.xdr.specs.Bytes.{Written};
-ghost use Rattle.rules.specs.Store as G;
+ghost use Rattle.xdr.specs.Encode.{u32, opaque};
 ghost use Rattle.tables.specs.Lent.{geometryOf, before, tables};
-ghost use Rattle.rules.specs.Lists.{first};
-ghost use Rattle.rules.specs.Store.{Store};
 ghost use Rattle.rules.specs.Read.{granted};
 ghost use Rattle.rules.specs.Operation.{readReply, readPlusReply, seekReply};
-ghost use Rattle.rules.specs.Run.{State, errors, perform, config};
-ghost use Rattle.tables.specs.Tables.{TableTrue};
-ghost use Rattle.wire.specs.Decoded.{meaning};
-ghost use Rattle.compound.specs.Runner.{stateOf, Known, Shows, Answered};
+ghost use Rattle.rules.specs.Run.{fileOf};
+ghost use Rattle.compound.specs.Runner.{fileIn, stateOf, Known, Shows, Wrote};
+ghost use Rattle.compound.specs.Does.{viewBytes};
 use crate::answer::Answer;
-use crate::answer::Handle;
-use crate::answer::without_body;
+use crate::answer::Position;
+use crate::answer::file_of;
 use crate::pieces::put_file_bytes;
 use crate::pieces::put_pieces;
-use crate::stateid::read_stateid;
 use tables::Geometry;
 use wire::Operation;
 use wire::ReadArgs;
@@ -140,157 +134,67 @@ fn put_seek(
     wire::put_sought(reply, at, p == size, p)
 }
 
-pub fn read(
+// GETFH's body: the handle as opaque data.
+fn put_handle(reply: &mut [u8], at: usize, f: usize) -> usize
+    requires { ⌜ (f < 2 ^ 32) × (at + 8 ≤ length (now reply)) ⌝ }
+    ensures { λ r. ⌜ Written (opaque (u32 f)) 8 at (now (reply .entry)) (now (reply .exit)) r ⌝ }
+{
+    let number = xdr::put_u32(reply, at, 4);
+    xdr::put_u32(reply, number, f as u32)
+}
+
+// What a result shows of the current file. SEEK's `count` is the kind that is asked for.
+pub enum View {
+    Handle,
+    Read(ReadArgs),
+    ReadPlus(ReadArgs),
+    Seek(ReadArgs),
+}
+
+// The body that shows it of file f.
+fn put_view(
     g: Geometry,
     sizes: &[u64],
     words: &[u32],
     mem: &[u8],
-    s: &[u8],
-    a: ReadArgs,
-    current: Handle,
-    saved: Handle,
+    f: usize,
+    v: View,
     reply: &mut [u8],
     at: usize,
-) -> Answer
-    requires { ⌜ Known (geometryOf g) (stateOf current saved (tables sizes words mem)) × (at + 2179 ≤ length (now reply)) ⌝ }
-    ensures { λ r. ⌜ ((v counts : List ℕ) (next : ℕ) → TableTrue (now (words .entry)) counts → Answered
-        (perform (config (geometryOf g) v) (stateOf current saved (before sizes words mem))
-        (meaning (now (s .entry)) (Operation.Read a)) next)
-        r (before sizes words mem) counts at (now (reply .entry)) (now (reply .exit))) ⌝ }
+) -> usize
+    requires { ⌜ Shows (geometryOf g) (tables sizes words mem) f (now reply) at ⌝ }
+    ensures { λ r. ⌜ Written (viewBytes (geometryOf g) (before sizes words mem) f v)
+        (length (viewBytes (geometryOf g) (before sizes words mem) f v)) at (now (reply .entry)) (now (reply .exit)) r ⌝ }
 {
-    let Handle::File(f) = current else {
-        return without_body(
-            reply,
-            at,
-            Operation::READ,
-            Answer::NOFILEHANDLE,
-            current,
-            saved,
-        );
-    };
-    if !read_stateid(s, a.stateid) {
-        return without_body(
-            reply,
-            at,
-            Operation::READ,
-            Answer::BAD_STATEID,
-            current,
-            saved,
-        );
-    }
-    let body = put_result(reply, at, Operation::READ, 0);
-    let next = put_read(g, sizes, words, mem, f, a.offset, a.count, reply, body);
-    Answer {
-        status: 0,
-        next,
-        current,
-        saved,
+    match v {
+        View::Handle => put_handle(reply, at, f),
+        View::Read(a) => put_read(g, sizes, words, mem, f, a.offset, a.count, reply, at),
+        View::ReadPlus(a) => put_read_plus(g, sizes, words, mem, f, a.offset, a.count, reply, at),
+        View::Seek(a) => put_seek(g, sizes, words, mem, f, a.offset, a.count, reply, at),
     }
 }
 
-pub fn read_plus(
+// The result of an operation that shows.
+pub fn show(
     g: Geometry,
     sizes: &[u64],
     words: &[u32],
     mem: &[u8],
-    s: &[u8],
-    a: ReadArgs,
-    current: Handle,
-    saved: Handle,
+    number: u32,
+    v: View,
+    p: Position,
     reply: &mut [u8],
-    at: usize,
 ) -> Answer
-    requires { ⌜ Known (geometryOf g) (stateOf current saved (tables sizes words mem)) × (at + 2179 ≤ length (now reply)) ⌝ }
-    ensures { λ r. ⌜ ((v counts : List ℕ) (next : ℕ) → TableTrue (now (words .entry)) counts → Answered
-        (perform (config (geometryOf g) v) (stateOf current saved (before sizes words mem))
-        (meaning (now (s .entry)) (Operation.ReadPlus a)) next)
-        r (before sizes words mem) counts at (now (reply .entry)) (now (reply .exit))) ⌝ }
+    requires { ⌜ Known (geometryOf g) (stateOf p (tables sizes words mem)) × (p .at + 2179 ≤ length (now reply)) ⌝ }
+    ensures { λ r. ⌜ Wrote number 0 (viewBytes (geometryOf g) (before sizes words mem) (fileOf (fileIn (p .current))) v) p
+        r (now (reply .entry)) (now (reply .exit)) ⌝ }
 {
-    let Handle::File(f) = current else {
-        return without_body(
-            reply,
-            at,
-            Operation::READ_PLUS,
-            Answer::NOFILEHANDLE,
-            current,
-            saved,
-        );
-    };
-    if !read_stateid(s, a.stateid) {
-        return without_body(
-            reply,
-            at,
-            Operation::READ_PLUS,
-            Answer::BAD_STATEID,
-            current,
-            saved,
-        );
-    }
-    let body = put_result(reply, at, Operation::READ_PLUS, 0);
-    let next = put_read_plus(g, sizes, words, mem, f, a.offset, a.count, reply, body);
+    let current = p.current;
+    let saved = p.saved;
+    let body = put_result(reply, p.at, number, 0);
+    let at = put_view(g, sizes, words, mem, file_of(current), v, reply, body);
     Answer {
         status: 0,
-        next,
-        current,
-        saved,
-    }
-}
-
-// The first error of a SEEK in a file of this size; 0 if there is none.
-fn seek_error(s: &[u8], a: ReadArgs, size: u64) -> u32
-    ensures { λ r. ⌜ ((g : G.Geometry) (x : State) (f : ℕ) → x .current ≡ some f → getD (x .store .sizes) f 0 ≡ size
-        → r ≡ first (errors g x (meaning (now (s .entry)) (Operation.Seek a)))) ⌝ }
-{
-    if !read_stateid(s, a.stateid) {
-        return Answer::BAD_STATEID;
-    }
-    if 1 < a.count {
-        return Answer::UNION_NOTSUPP;
-    }
-    if size <= a.offset {
-        return Answer::NXIO;
-    }
-    0
-}
-
-pub fn seek(
-    g: Geometry,
-    sizes: &[u64],
-    words: &[u32],
-    mem: &[u8],
-    s: &[u8],
-    a: ReadArgs,
-    current: Handle,
-    saved: Handle,
-    reply: &mut [u8],
-    at: usize,
-) -> Answer
-    requires { ⌜ Known (geometryOf g) (stateOf current saved (tables sizes words mem)) × (at + 2179 ≤ length (now reply)) ⌝ }
-    ensures { λ r. ⌜ ((v counts : List ℕ) (next : ℕ) → TableTrue (now (words .entry)) counts → Answered
-        (perform (config (geometryOf g) v) (stateOf current saved (before sizes words mem))
-        (meaning (now (s .entry)) (Operation.Seek a)) next)
-        r (before sizes words mem) counts at (now (reply .entry)) (now (reply .exit))) ⌝ }
-{
-    let Handle::File(f) = current else {
-        return without_body(
-            reply,
-            at,
-            Operation::SEEK,
-            Answer::NOFILEHANDLE,
-            current,
-            saved,
-        );
-    };
-    let e = seek_error(s, a, sizes[f]);
-    if e != 0 {
-        return without_body(reply, at, Operation::SEEK, e, current, saved);
-    }
-    let body = put_result(reply, at, Operation::SEEK, 0);
-    let next = put_seek(g, sizes, words, mem, f, a.offset, a.count, reply, body);
-    Answer {
-        status: 0,
-        next,
-        current,
-        saved,
+        after: Position { current, saved, at },
     }
 }

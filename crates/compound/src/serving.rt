@@ -6,7 +6,7 @@ ghost use mathlib.Core.List.{[], _∷_};
 ghost use Prim.Native.Nat.{_+_, _≤_};
 ghost use lib.ListN.{length};
 ghost use Rattle.xdr.specs.Bytes.{partOf, Written};
-ghost use Rattle.xdr.specs.Encode.{opaqueSize};
+ghost use Rattle.xdr.specs.Encode.{u64, opaqueSize};
 ghost use Rattle.tables.specs.Lent.{geometryOf, after, before, tables};
 ghost use Rattle.rules.specs.Lists.{first};
 ghost use Rattle.rules.specs.Operation.{MINOR-VERS-MISMATCH, TOO-MANY-OPS};
@@ -15,14 +15,18 @@ ghost use Rattle.rules.specs.Run.{config};
 ghost use Rattle.tables.specs.Tables.{Shaped};
 ghost use Rattle.tables.specs.Survey.{TableFits, TableReady};
 ghost use Rattle.wire.specs.Decoded.{headerOf};
-ghost use Rattle.compound.specs.Runner.{Serves, call, outcome};
+ghost use Rattle.compound.specs.Runner.{configOf, Serves, call, outcome};
 use crate::answer::Answer;
+use crate::run::Config;
+use crate::run::Progress;
 use crate::run::run;
 use tables::Geometry;
 use wire::Header;
 use wire::HeaderRead;
 use wire::Operation;
 use wire::header;
+use xdr::Cursor;
+use xdr::Long;
 
 // A refusal with zero counts, or 0 with the bytes read and written.
 pub struct Served {
@@ -78,19 +82,18 @@ fn put_head(reply: &mut [u8], status: u32, tag: &[u8], count: u32) -> usize
 // A compound whose header was read, on a store that was found sound. The results are written first: their place is known from the
 // tag, their number and the last status are not.
 fn serve_operations(
-    g: Geometry,
+    c: Config,
     sizes: &mut [u64],
     words: &mut [u32],
     mem: &mut [u8],
     counts: &mut [u32],
-    v: &[u8],
     s: &[u8],
     h: Header,
     reply: &mut [u8],
 ) -> Served
-    requires { ⌜ Serves (geometryOf g) (now v) (now s) (tables sizes words mem) (now counts) (now reply) × (length (partOf (now s) (h .tag)) ≤ 1024) ⌝ }
+    requires { ⌜ Serves (geometryOf (c .geometry)) (now s) (tables sizes words mem) (now counts) (now reply) × (length (partOf (now s) (h .tag)) ≤ 1024) ⌝ }
     ensures { λ r. ⌜ Gives (served (now (reply .entry)) (before sizes words mem) (headerOf (now (s .entry)) h) (h .next .at)
-        (compound (config (geometryOf g) (now (v .entry))) (before sizes words mem) (now (s .entry)) (headerOf (now (s .entry)) h) (h .next .at)))
+        (compound (configOf c) (before sizes words mem) (now (s .entry)) (headerOf (now (s .entry)) h) (h .next .at)))
         (outcome r reply (after sizes words mem)) ⌝ }
 {
     let d = h.tag;
@@ -105,31 +108,31 @@ fn serve_operations(
         };
     }
     let out = 12 + (tag.len() + xdr::padding(tag.len()));
-    let r = run(g, sizes, words, mem, counts, v, s, h, out, reply);
+    let start = Progress::start(h.next.at, out);
+    let r = run(c, sizes, words, mem, counts, s, h.ops, start, reply);
     put_head(reply, r.status, tag, r.count);
     Served {
         number: 0,
         read: r.read,
-        written: r.out,
+        written: r.at.at,
     }
 }
 
 // Refusals 3 to 6. `counts` has a zero for each block.
 fn serve_counted(
-    g: Geometry,
+    c: Config,
     sizes: &mut [u64],
     words: &mut [u32],
     mem: &mut [u8],
     counts: &mut [u32],
-    v: &[u8],
     s: &[u8],
     reply: &mut [u8],
 ) -> Served
-    requires { ⌜ TableReady (geometryOf g) (tables sizes words mem) (now counts) × (length (now v) ≡ 8) ⌝ }
-    ensures { λ r. ⌜ Contract (call (geometryOf g) v s reply) (before sizes words mem)
+    requires { ⌜ TableReady (geometryOf (c .geometry)) (tables sizes words mem) (now counts) ⌝ }
+    ensures { λ r. ⌜ Contract (call (configOf c) s reply) (before sizes words mem)
         (outcome r reply (after sizes words mem)) ⌝ }
 {
-    if tables::survey_tables(g, sizes, words, mem, counts).number != 0 {
+    if tables::survey_tables(c.geometry, sizes, words, mem, counts).number != 0 {
         return Served::refused(3);
     }
     if Served::MAX_REQUEST < s.len() {
@@ -141,44 +144,107 @@ fn serve_counted(
     let HeaderRead::Found(h) = header(s) else {
         return Served::refused(6);
     };
-    serve_operations(g, sizes, words, mem, counts, v, s, h, reply)
+    serve_operations(c, sizes, words, mem, counts, s, h, reply)
 }
 
 // The same in a table of any length that has a number for each block.
 fn serve_in(
-    g: Geometry,
+    c: Config,
     sizes: &mut [u64],
     words: &mut [u32],
     mem: &mut [u8],
     counts: &mut [u32],
-    v: &[u8],
     s: &[u8],
     reply: &mut [u8],
 ) -> Served
-    requires { ⌜ TableFits (geometryOf g) (tables sizes words mem) (now counts) × (length (now v) ≡ 8) ⌝ }
-    ensures { λ r. ⌜ Contract (call (geometryOf g) v s reply) (before sizes words mem)
+    requires { ⌜ TableFits (geometryOf (c .geometry)) (tables sizes words mem) (now counts) ⌝ }
+    ensures { λ r. ⌜ Contract (call (configOf c) s reply) (before sizes words mem)
         (outcome r reply (after sizes words mem)) ⌝ }
 {
-    let n = g.blocks;
-    serve_counted(g, sizes, words, mem, &mut counts[..n], v, s, reply)
+    let n = c.geometry.blocks;
+    serve_counted(c, sizes, words, mem, &mut counts[..n], s, reply)
 }
 
-// The same; it owns the table and only lends it.
-fn serve_shaped(
-    g: Geometry,
+// The same with a table of its own, which it only lends. A small table is cleared faster.
+fn serve_small(
+    c: Config,
     sizes: &mut [u64],
     words: &mut [u32],
     mem: &mut [u8],
-    v: &[u8],
     s: &[u8],
     reply: &mut [u8],
 ) -> Served
-    requires { ⌜ Shaped (geometryOf g) (tables sizes words mem) × (length (now v) ≡ 8) ⌝ }
-    ensures { λ r. ⌜ Contract (call (geometryOf g) v s reply) (before sizes words mem)
+    requires { ⌜ Shaped (geometryOf (c .geometry)) (tables sizes words mem) × (c .geometry .blocks ≤ 256) ⌝ }
+    ensures { λ r. ⌜ Contract (call (configOf c) s reply) (before sizes words mem)
         (outcome r reply (after sizes words mem)) ⌝ }
 {
-    let mut counts = [0u32; 65536];
-    serve_in(g, sizes, words, mem, &mut counts, v, s, reply)
+    let mut counts = [0u32; Geometry::SMALL_POOL];
+    serve_in(c, sizes, words, mem, &mut counts, s, reply)
+}
+
+fn serve_middle(
+    c: Config,
+    sizes: &mut [u64],
+    words: &mut [u32],
+    mem: &mut [u8],
+    s: &[u8],
+    reply: &mut [u8],
+) -> Served
+    requires { ⌜ Shaped (geometryOf (c .geometry)) (tables sizes words mem) × (c .geometry .blocks ≤ 4096) ⌝ }
+    ensures { λ r. ⌜ Contract (call (configOf c) s reply) (before sizes words mem)
+        (outcome r reply (after sizes words mem)) ⌝ }
+{
+    let mut counts = [0u32; Geometry::MIDDLE_POOL];
+    serve_in(c, sizes, words, mem, &mut counts, s, reply)
+}
+
+fn serve_large(
+    c: Config,
+    sizes: &mut [u64],
+    words: &mut [u32],
+    mem: &mut [u8],
+    s: &[u8],
+    reply: &mut [u8],
+) -> Served
+    requires { ⌜ Shaped (geometryOf (c .geometry)) (tables sizes words mem) × (c .geometry .blocks ≤ 65536) ⌝ }
+    ensures { λ r. ⌜ Contract (call (configOf c) s reply) (before sizes words mem)
+        (outcome r reply (after sizes words mem)) ⌝ }
+{
+    let mut counts = [0u32; Geometry::MAX_BLOCKS];
+    serve_in(c, sizes, words, mem, &mut counts, s, reply)
+}
+
+fn serve_shaped(
+    c: Config,
+    sizes: &mut [u64],
+    words: &mut [u32],
+    mem: &mut [u8],
+    s: &[u8],
+    reply: &mut [u8],
+) -> Served
+    requires { ⌜ Shaped (geometryOf (c .geometry)) (tables sizes words mem) ⌝ }
+    ensures { λ r. ⌜ Contract (call (configOf c) s reply) (before sizes words mem)
+        (outcome r reply (after sizes words mem)) ⌝ }
+{
+    let n = c.geometry.blocks;
+    if n <= Geometry::SMALL_POOL {
+        return serve_small(c, sizes, words, mem, s, reply);
+    }
+    if n <= Geometry::MIDDLE_POOL {
+        return serve_middle(c, sizes, words, mem, s, reply);
+    }
+    serve_large(c, sizes, words, mem, s, reply)
+}
+
+// The verifier as a number.
+fn verifier(v: &[u8]) -> u64
+    requires { ⌜ length (now v) ≡ 8 ⌝ }
+    ensures { λ r. ⌜ u64 r ≡ now (v .entry) ⌝ }
+{
+    let Long::Value(n, _) = Cursor::new().long(v) else {
+        return 0;
+    };
+    n
 }
 
 // Serves the compound of request s on the lent store. v is the verifier.
@@ -191,7 +257,7 @@ pub fn serve(
     s: &[u8],
     reply: &mut [u8],
 ) -> Served
-    ensures { λ r. ⌜ Contract (call (geometryOf g) v s reply) (before sizes words mem)
+    ensures { λ r. ⌜ Contract (call (config (geometryOf g) (now (v .entry))) s reply) (before sizes words mem)
         (outcome r reply (after sizes words mem)) ⌝ }
 {
     if !g.good() {
@@ -203,5 +269,9 @@ pub fn serve(
     if v.len() != Served::VERIFIER {
         return Served::refused(2);
     }
-    serve_shaped(g, sizes, words, mem, v, s, reply)
+    let c = Config {
+        geometry: g,
+        verifier: verifier(v),
+    };
+    serve_shaped(c, sizes, words, mem, s, reply)
 }

@@ -6,7 +6,6 @@ pub mod PlaceLaws
 pub mod ScanLaws
 pub mod EditEnds
 pub mod SettleLaws
-pub mod SurveyKnown
 pub mod CopyBytes
 pub mod ApplyLaws
 pub mod KindLaws

@@ -12,11 +12,11 @@ use lib.Dec.{leb, ltb}
 use borrow.Author.Tests.{leb-true, le-leb, lt-leb, not-true, not-false}
 use Rattle.rules.specs.Lists.{allTo, count, tabulate}
 use Rattle.rules.specs.Store.{Geometry, Store, holders, used, owed, fitsPool, soundFile, sound}
-use Rattle.tables.specs.Tables.{Shaped, Pooled, Tallied}
+use Rattle.tables.specs.Tables.{Shaped, Pooled, Tallied, TableTrue}
 use Rattle.tables.specs.Tally.{Untallied, owesBy}
 use Rattle.tables.specs.Survey.{TableReady, TableFits, tableAfter, Surveyed}
-use Rattle.rules.proofs.GeometryLaws.{good, slots-all, lengths}
-use Rattle.rules.proofs.SoundLaws.{allTo-at}
+use Rattle.rules.proofs.GeometryLaws.{good, block-pos, slots-all, lengths}
+use Rattle.rules.proofs.SoundLaws.{allTo-at, sound-facts}
 use Rattle.rules.proofs.SlotByteLaws.{length-tab, getD-tab}
 use Rattle.tables.proofs.TallyLaws.{count-most, tallied-used, tallied-owed}
 use Rattle.tables.proofs.CallLaws.{count-unsound, count-sound, sound-words, sound-files, sound-room}
@@ -160,3 +160,14 @@ surveyed-table g st {counts} {after} s r = record { each = λ b h. at b (rw is a
     at : (b : ℕ) → b < length (tabulate (λ b. holders b (st .words)) 0 (g .N)) → getD after b 0 ≡ holders b (st .words)
     at b h =
         rw is (getD-tab (λ b. holders b (st .words)) (g .N) 0 b (omega (arith, length-tab (λ b. holders b (st .words)) (g .N) 0)) ∙ ap (λ (x : ℕ). holders x (st .words)) (zero-add b))
+
+-- the words of a sound store, with a true table of one number for each block
+pub sound-counted : (g : Geometry) (st : Store) (counts : List ℕ) → Shaped g st → sound g st ≡ true → Tallied (st .words) counts → length counts ≡ g .N
+    → TableTrue (st .words) counts
+sound-counted g st counts h s t n =
+    let facts = sound-facts g (block-pos (good g (h .geometry))) st (h .lengths) s in
+    record {
+      table = t;
+      pool = rw n (facts .pool);
+      few = omega (arith, lengths g st (h .lengths) .slots, slots-all g (good g (h .geometry)));
+    }

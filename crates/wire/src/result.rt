@@ -6,7 +6,7 @@ ghost use Prim.Native.Nat.{_+_, _≤_};
 ghost use lib.ListN.{length};
 ghost use Rattle.xdr.specs.Bytes.{Written};
 ghost use Rattle.xdr.specs.Encode.{u32, u64};
-ghost use Rattle.rules.specs.Operation.{writeResult, copyResult, fileSync, holePiece, seekResult};
+ghost use Rattle.rules.specs.Operation.{writeReply, copyReply, holePiece, seekResult};
 
 // FILE_SYNC4.
 const FILE_SYNC: u32 = 2;
@@ -21,24 +21,24 @@ pub fn put_result(reply: &mut [u8], at: usize, number: u32, status: u32) -> usiz
 }
 
 // WRITE's: count, committed, verifier.
-pub fn put_written(reply: &mut [u8], at: usize, count: u32, v: &[u8]) -> usize
-    requires { ⌜ (length (now v) ≡ 8) × (at + 16 ≤ length (now reply)) ⌝ }
-    ensures { λ r. ⌜ Written (writeResult .write (count, (fileSync, now (v .entry)))) 16 at (now (reply .entry)) (now (reply .exit)) r ⌝ }
+pub fn put_written(reply: &mut [u8], at: usize, count: u32, verifier: u64) -> usize
+    requires { ⌜ at + 16 ≤ length (now reply) ⌝ }
+    ensures { λ r. ⌜ Written (writeReply count (u64 verifier)) 16 at (now (reply .entry)) (now (reply .exit)) r ⌝ }
 {
     let sync = xdr::put_u32(reply, at, count);
-    let verifier = xdr::put_u32(reply, sync, FILE_SYNC);
-    xdr::put_bytes(reply, verifier, v)
+    let place = xdr::put_u32(reply, sync, FILE_SYNC);
+    xdr::put_u64(reply, place, verifier)
 }
 
 // COPY's: no callback id, count, committed, verifier, consecutive, synchronous.
-pub fn put_copied(reply: &mut [u8], at: usize, count: u64, v: &[u8]) -> usize
-    requires { ⌜ (length (now v) ≡ 8) × (at + 32 ≤ length (now reply)) ⌝ }
-    ensures { λ r. ⌜ Written (copyResult .write (0, (count, (fileSync, (now (v .entry), (true, true)))))) 32 at (now (reply .entry)) (now (reply .exit)) r ⌝ }
+pub fn put_copied(reply: &mut [u8], at: usize, count: u64, verifier: u64) -> usize
+    requires { ⌜ at + 32 ≤ length (now reply) ⌝ }
+    ensures { λ r. ⌜ Written (copyReply count (u64 verifier)) 32 at (now (reply .entry)) (now (reply .exit)) r ⌝ }
 {
     let bytes = xdr::put_u32(reply, at, 0);
     let sync = xdr::put_u64(reply, bytes, count);
-    let verifier = xdr::put_u32(reply, sync, FILE_SYNC);
-    let consecutive = xdr::put_bytes(reply, verifier, v);
+    let place = xdr::put_u32(reply, sync, FILE_SYNC);
+    let consecutive = xdr::put_u64(reply, place, verifier);
     let synchronous = xdr::put_bool(reply, consecutive, true);
     xdr::put_bool(reply, synchronous, true)
 }

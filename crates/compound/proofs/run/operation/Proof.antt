@@ -1,123 +1,101 @@
+use mathlib.Core.Path.{refl, sym, ap, _∙_}
 use native.Mathlib.Omega.{arith}
-use Rattle.compound.proofs.HandleOps.{small-file, by-case}
+use Rattle.rules.specs.Store.{Store}
+use Rattle.tables.specs.Lent.{geometryOf}
+use Rattle.wire.specs.Decoded.{meaning}
+use Rattle.compound.specs.Runner.{configOf}
+use Rattle.compound.specs.Does.{doesOf}
+use Rattle.compound.proofs.RunLaws.{named, edit-known, edit-applies, region-small, answers-failed, answers-sets, answers-shows, answers-edits}
 use borrow.Author.Needs.{needs}
 use Rattle.compound.proofs.run.operation.Statement.{statement}
 use Rattle.compound.proofs.run.operation.Tie as tie
 
-get-fh-requires : tie.Need-get-fh-requires
-get-fh-requires c κs =
-    let s = c .before .before .before .before .before .before .before .before .before .before in
-    (small-file (s .pre .known), omega (arith, s .pre .room))
+error-requires : tie.Need-error-requires
+error-requires c κs = let s = c .before .before .before .before .before .before .before .before .before in named (s .args .p) (s .pre .known)
 
 returns : tie.Need-returns
 returns c =
-    let k = c .before .before in
-    let e = k .before .before in
-    let s = e .before .before .before .before .before .before .before .before .before in
+    let w = c .before .before in
+    let e = w .before .before .before in
+    let k = e .before .before in
+    let s = k .before .before .before .before .before .before .before .before in
     let a = s .args in
-    by-case _ _ _ (a .s .now) (e .enum-told .given .1) (λ next. k .get-fh .ensures _ (a .v .now) (record { sizes = a .sizes .now; words = a .words .now; mem = a .mem .now }) (a .counts .now) next (s .pre .known) (s .pre .counted))
+    λ next. answers-failed (configOf (a .c)) (a .p) (record { sizes = a .sizes .now; words = a .words .now; mem = a .mem .now }) (meaning (a .s .now) (a .o)) next (k .number .ensures (a .s .now))
+    (e .error .ensures _ refl) (w .before .before .if1 .taken) (s .pre .counted) (w .without-body .ensures)
+
+does-of-requires : tie.Need-does-of-requires
+does-of-requires c κs =
+    let t = c .before in
+    let s = t .before .before .before .before .before .before .before .before .before .before .before in
+    record { named = named (s .args .p) (s .pre .known); no-error = λ st same. sym (t .if1 .left) ∙ t .before .error .ensures st same }
+
+apply-requires : tie.Need-apply-requires
+apply-requires c κs =
+    let m = c .before .before .before .before .before .before in
+    let d = m .before .before in
+    let s = d .before .before .before .before .before .before .before .before .before .before .before .before .before in
+    edit-applies (s .args .s .now) (d .does-of .result) (m .e .given .1) (c .part .ensures .bytes-are) (d .does-of .ensures .applies _ (s .args .counts .now) refl (edit-known (s .args .p) (s .pre)))
+
+edited-requires : tie.Need-edited-requires
+edited-requires c κs =
+    let k = c .before .before .before .before .before .before .before .before .before .before in
+    let m = k .before .before .before .before .before .before in
+    let d = m .before .before in
+    let s = d .before .before .before .before .before .before .before .before .before .before .before .before .before in
+    let known = edit-applies (s .args .s .now) (d .does-of .result) (m .e .given .1) (k .part .ensures .bytes-are) (d .does-of .ensures .applies _ (s .args .counts .now) refl (edit-known (s .args .p) (s .pre))) in
+    (region-small known, omega (arith, s .pre .room))
 
 returns-2 : tie.Need-returns-2
 returns-2 c =
-    let k = c .before .before in
-    let e = k .before .before .before in
-    let s = e .before .before .before .before .before .before .before .before .before in
+    let w = c .before .before in
+    let m = w .before .before .before in
+    let d = m .before .before in
+    let t = d .before .before in
+    let k = t .before .before .before in
+    let s = k .before .before .before .before .before .before .before .before in
     let a = s .args in
-    by-case _ _ _ (a .s .now) (e .o .given .1) (λ next. k .put-fh .ensures (a .v .now) (record { sizes = a .sizes .now; words = a .words .now; mem = a .mem .now }) (a .counts .now) next (s .pre .known) (s .pre .counted))
+    let st : Store = record { sizes = a .sizes .now; words = a .words .now; mem = a .mem .now } in
+    λ next. answers-sets (configOf (a .c)) (a .p) st (meaning (a .s .now) (a .o)) next (k .number .ensures (a .s .now))
+    (sym (t .before .error .ensures st refl) ∙ t .if1 .left) (s .pre .known) (s .pre .counted) (w .without-body2 .ensures) refl
+    (ap (doesOf (geometryOf (a .c .geometry)) (a .s .now) (a .p) st) (sym (m .current .given .1)) ∙ d .does-of .ensures .is st refl)
 
 returns-3 : tie.Need-returns-3
 returns-3 c =
-    let k = c .before .before in
-    let e = k .before .before .before .before .before .before in
-    let s = e .before .before .before .before .before .before .before .before .before in
+    let w = c .before .before in
+    let m = w .before .before .before .before .before .before in
+    let d = m .before .before in
+    let t = d .before .before in
+    let k = t .before .before .before in
+    let s = k .before .before .before .before .before .before .before .before in
     let a = s .args in
-    by-case _ _ _ (a .s .now) (e .o2 .given .1) (λ next. k .read .ensures (a .v .now) (a .counts .now) next (s .pre .counted))
+    let st : Store = record { sizes = a .sizes .now; words = a .words .now; mem = a .mem .now } in
+    λ next. answers-shows (configOf (a .c)) (a .p) st (meaning (a .s .now) (a .o)) next (k .number .ensures (a .s .now))
+    (sym (t .before .error .ensures st refl) ∙ t .if1 .left) (s .pre .known) (s .pre .counted) (w .show .ensures)
+    (ap (doesOf (geometryOf (a .c .geometry)) (a .s .now) (a .p) st) (sym (m .v .given .1)) ∙ d .does-of .ensures .is st refl)
 
 returns-4 : tie.Need-returns-4
 returns-4 c =
-    let k = c .before .before in
-    let e = k .before .before in
-    let s = e .before .before .before .before .before .before .before .before .before in
+    let w = c .before .before in
+    let x = w .before .before .before .before .before .before .before .before .before .before in
+    let m = x .before .before .before .before .before .before .before in
+    let d = m .before .before in
+    let t = d .before .before in
+    let k = t .before .before .before in
+    let s = k .before .before .before .before .before .before .before .before in
     let a = s .args in
-    by-case _ _ _ (a .s .now) (e .enum-told2 .given .1) (λ next. k .restore-fh .ensures _ (a .v .now) (record { sizes = a .sizes .now; words = a .words .now; mem = a .mem .now }) (a .counts .now) next (s .pre .known) (s .pre .counted))
-
-returns-5 : tie.Need-returns-5
-returns-5 c =
-    let k = c .before .before in
-    let e = k .before .before in
-    let s = e .before .before .before .before .before .before .before .before .before in
-    let a = s .args in
-    by-case _ _ _ (a .s .now) (e .enum-told3 .given .1) (λ next. k .save-fh .ensures _ (a .v .now) (record { sizes = a .sizes .now; words = a .words .now; mem = a .mem .now }) (a .counts .now) next (s .pre .known) (s .pre .counted))
-
-returns-6 : tie.Need-returns-6
-returns-6 c =
-    let k = c .before .before .before .before .before .before .before .before .before .before in
-    let e = k .before .before .before .before .before .before .before in
-    let s = e .before .before .before .before .before .before .before .before .before in
-    by-case _ _ _ (s .args .s .now) (e .o3 .given .1) (k .write .ensures)
-
-returns-7 : tie.Need-returns-7
-returns-7 c =
-    let k = c .before .before .before .before .before .before .before .before in
-    let e = k .before .before .before .before .before .before .before in
-    let s = e .before .before .before .before .before .before .before .before .before in
-    by-case _ _ _ (s .args .s .now) (e .o4 .given .1) (k .allocate .ensures)
-
-returns-8 : tie.Need-returns-8
-returns-8 c =
-    let k = c .before .before .before .before .before .before .before .before .before .before in
-    let e = k .before .before .before .before .before .before .before in
-    let s = e .before .before .before .before .before .before .before .before .before in
-    by-case _ _ _ (s .args .s .now) (e .o5 .given .1) (k .copy .ensures)
-
-returns-9 : tie.Need-returns-9
-returns-9 c =
-    let k = c .before .before .before .before .before .before .before .before in
-    let e = k .before .before .before .before .before .before .before in
-    let s = e .before .before .before .before .before .before .before .before .before in
-    by-case _ _ _ (s .args .s .now) (e .o6 .given .1) (k .deallocate .ensures)
-
-returns-10 : tie.Need-returns-10
-returns-10 c =
-    let k = c .before .before in
-    let e = k .before .before .before .before .before .before in
-    let s = e .before .before .before .before .before .before .before .before .before in
-    let a = s .args in
-    by-case _ _ _ (a .s .now) (e .o7 .given .1) (λ next. k .read-plus .ensures (a .v .now) (a .counts .now) next (s .pre .counted))
-
-returns-11 : tie.Need-returns-11
-returns-11 c =
-    let k = c .before .before in
-    let e = k .before .before .before .before .before .before in
-    let s = e .before .before .before .before .before .before .before .before .before in
-    let a = s .args in
-    by-case _ _ _ (a .s .now) (e .o8 .given .1) (λ next. k .seek .ensures (a .v .now) (a .counts .now) next (s .pre .counted))
-
-returns-12 : tie.Need-returns-12
-returns-12 c =
-    let k = c .before .before .before .before .before .before .before .before in
-    let e = k .before .before .before .before .before .before .before in
-    let s = e .before .before .before .before .before .before .before .before .before in
-    by-case _ _ _ (s .args .s .now) (e .o9 .given .1) (k .clone .ensures)
+    let st : Store = record { sizes = a .sizes .now; words = a .words .now; mem = a .mem .now } in
+    λ next. answers-edits (configOf (a .c)) (a .p) st (meaning (a .s .now) (a .o)) next (k .number .ensures (a .s .now))
+    (sym (t .before .error .ensures st refl) ∙ t .if1 .left)
+    (ap (doesOf (geometryOf (a .c .geometry)) (a .s .now) (a .p) st) (sym (m .e .given .1)) ∙ d .does-of .ensures .is st refl)
+    (rw (x .before .part .ensures .bytes-are) at (x .apply .ensures)) (w .edited .ensures)
 
 pub operation-spec : {M : Type 1} → statement M
 operation-spec =
     tie.close
     (tie.spec
-    (λ c. search needs) get-fh-requires (λ c. search needs) (λ c κs. search needs) (λ c. search needs)
-    (λ c κs. search needs) (λ c. search needs) (λ c κs. search needs) (λ c. search needs) (λ c κs. search needs)
-    (λ c. search needs) (λ c κs. search needs) (λ c. search needs) (λ c κs. search needs) (λ c. search needs)
-    (λ c κs. search needs) (λ c. search needs) (λ c κs. search needs) (λ c. search needs) (λ c κs. search needs)
-    (λ c. search needs) (λ c κs. search needs) (λ c. search needs) (λ c κs. search needs) (λ c. search needs)
-    returns
+    (λ c κs. search needs) error-requires (λ c κs. search needs) (λ c. search needs) (λ c. search needs) returns
+    does-of-requires (λ c. search needs) (λ c κs. search needs) (λ c. search needs) (λ c κs. search needs)
+    (λ c. search needs) (λ c κs. search needs) apply-requires edited-requires (λ c. search needs)
     (λ c. search needs) returns-2
     (λ c. search needs) (λ c. search needs) (λ c. search needs) (λ c. search needs) returns-3
-    (λ c. search needs) returns-4
-    (λ c. search needs) returns-5
-    (λ c. search needs) (λ c. search needs) (λ c. search needs) (λ c. search needs) (λ c. search needs) returns-6
-    (λ c. search needs) (λ c. search needs) (λ c. search needs) (λ c. search needs) (λ c. search needs) returns-7
-    (λ c. search needs) (λ c. search needs) (λ c. search needs) (λ c. search needs) (λ c. search needs) returns-8
-    (λ c. search needs) (λ c. search needs) (λ c. search needs) (λ c. search needs) (λ c. search needs) returns-9
-    (λ c. search needs) (λ c. search needs) (λ c. search needs) (λ c. search needs) returns-10
-    (λ c. search needs) (λ c. search needs) (λ c. search needs) (λ c. search needs) returns-11
-    (λ c. search needs) (λ c. search needs) (λ c. search needs) (λ c. search needs) (λ c. search needs) returns-12)
+    (λ c. search needs) (λ c. search needs) (λ c. search needs) (λ c. search needs) (λ c. search needs) returns-4)

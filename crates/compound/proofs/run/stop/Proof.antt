@@ -1,11 +1,10 @@
-use mathlib.Core.Path.{refl}
+use Rattle.compound.proofs.RunLaws.{stopped}
 use borrow.Author.Needs.{needs}
-use Rattle.compound.proofs.LeafLaws.{stopped}
 use Rattle.compound.proofs.run.stop.Statement.{statement}
 use Rattle.compound.proofs.run.stop.Tie as tie
 
 returns : tie.Need-returns
-returns c = stopped refl refl refl refl refl (c .before .before .before .put-result .ensures)
+returns c = stopped (c .before .before .before .before .without-body .ensures)
 
 pub stop-spec : {M : Type 1} → statement M
 stop-spec =

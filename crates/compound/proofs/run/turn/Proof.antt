@@ -1,6 +1,6 @@
-use mathlib.Core.Path.{sym, ap, _∙_}
+use mathlib.Core.Path.{refl, sym, ap, _∙_}
 use Rattle.wire.specs.Decoded.{itemOf}
-use Rattle.compound.proofs.HandleOps.{turned}
+use Rattle.compound.proofs.RunLaws.{read-moved, turned}
 use borrow.Author.Needs.{needs}
 use Rattle.compound.proofs.run.turn.Statement.{statement}
 use Rattle.compound.proofs.run.turn.Tie as tie
@@ -8,19 +8,19 @@ use Rattle.compound.proofs.run.turn.Tie as tie
 returns : tie.Need-returns
 returns c =
     let k = c .before .before .before .before .before .before .before .before .before .before in
-    let m = k .before .before .before .before .before .before .before in
+    let m = k .before .before .before .before .before .before .before .before in
     let i = m .before .before in
-    let a = i .before .before .before .before .before .before .before .before .args in
-    turned _ _ _ _ _ (sym (ap (itemOf (a .s .now)) (m .o .given .1)) ∙ i .item .ensures) (k .step .ensures)
+    let a = i .before .before .before .before .before .before .before .args in
+    turned _ _ _ _ (sym (ap (itemOf (a .s .now)) (m .o .given .1)) ∙ i .item .ensures) (read-moved _ _ _ _ (a .r) refl refl refl (k .step .ensures))
 
 returns-2 : tie.Need-returns-2
 returns-2 c =
     let k = c .before .before in
     let m = k .before .before .before in
     let i = m .before .before in
-    let s = i .before .before .before .before .before .before .before .before in
+    let s = i .before .before .before .before .before .before .before in
     let a = s .args in
-    turned _ _ _ _ _ (sym (ap (itemOf (a .s .now)) (m .number .given .1)) ∙ i .item .ensures)
+    turned _ _ _ _ (sym (ap (itemOf (a .s .now)) (m .number .given .1)) ∙ i .item .ensures)
     (k .stop .ensures (record { sizes = a .sizes .now; words = a .words .now; mem = a .mem .now }) (a .counts .now) (s .pre .0 .counted))
 
 pub turn-spec : {M : Type 1} → statement M

@@ -1,40 +1,41 @@
 use mathlib.Core.Path.{sym, ap, _∙_}
-use borrow.Author.Needs.{needs}
+use Rattle.xdr.proofs.EncodeLaws.{length-u64}
 use Rattle.wire.specs.Decoded.{ofHeader}
 use Rattle.compound.proofs.ServeLaws.{refused-3, refused-4, refused-5, refused-6, serves, survey-unsound, survey-sound, table-long, serves-known, tag-short}
+use borrow.Author.Needs.{needs}
 use Rattle.compound.proofs.serving.serve_counted.Statement.{statement}
 use Rattle.compound.proofs.serving.serve_counted.Tie as tie
 
 returns : tie.Need-returns
 returns c =
     let y = c .before .before .before .before .before in
-    let s = y .before .before .before .before .before .before .before .before .before .before .before .before in
-    let t = s .pre .0 in
-    refused-3 _ _ _ _ _ (t .shaped .geometry) (t .shaped .lengths) (s .pre .1) (survey-unsound t (y .survey-tables .ensures) (c .before .if1 .taken)) _ _ _ (c .refused .ensures)
+    let s = y .before .before .before .before .before .before .before .before .before .before .before in
+    let t = s .pre in
+    refused-3 _ _ _ _ _ (t .shaped .geometry) (t .shaped .lengths) (length-u64 _) (survey-unsound t (y .survey-tables .ensures) (c .before .if1 .taken)) _ _ _ (c .refused .ensures)
 
 returns-2 : tie.Need-returns-2
 returns-2 c =
     let y = c .before .before .before .before .before .before in
-    let s = y .before .before .before .before .before .before .before .before .before .before .before .before in
-    let t = s .pre .0 in
-    refused-4 _ _ _ _ _ (t .shaped .geometry) (t .shaped .lengths) (s .pre .1) (survey-sound t (y .survey-tables .ensures) (c .before .before .if1 .left))
+    let s = y .before .before .before .before .before .before .before .before .before .before .before in
+    let t = s .pre in
+    refused-4 _ _ _ _ _ (t .shaped .geometry) (t .shaped .lengths) (length-u64 _) (survey-sound t (y .survey-tables .ensures) (c .before .before .if1 .left))
     (c .before .if2 .taken) _ _ _ (c .refused2 .ensures)
 
 returns-3 : tie.Need-returns-3
 returns-3 c =
     let y = c .before .before .before .before .before .before .before in
-    let s = y .before .before .before .before .before .before .before .before .before .before .before .before in
-    let t = s .pre .0 in
-    refused-5 _ _ _ _ _ (t .shaped .geometry) (t .shaped .lengths) (s .pre .1) (survey-sound t (y .survey-tables .ensures) (c .before .before .before .if1 .left))
+    let s = y .before .before .before .before .before .before .before .before .before .before .before in
+    let t = s .pre in
+    refused-5 _ _ _ _ _ (t .shaped .geometry) (t .shaped .lengths) (length-u64 _) (survey-sound t (y .survey-tables .ensures) (c .before .before .before .if1 .left))
     (c .before .before .if2 .left) (c .before .if3 .taken) _ _ _ (c .refused3 .ensures)
 
 returns-4 : tie.Need-returns-4
 returns-4 c =
     let k = c .before .before .before in
     let y = k .before .before .before .before .before .before .before in
-    let s = y .before .before .before .before .before .before .before .before .before .before .before .before in
-    let t = s .pre .0 in
-    refused-6 _ _ _ _ _ (t .shaped .geometry) (t .shaped .lengths) (s .pre .1) (survey-sound t (y .survey-tables .ensures) (k .before .before .before .if1 .left))
+    let s = y .before .before .before .before .before .before .before .before .before .before .before in
+    let t = s .pre in
+    refused-6 _ _ _ _ _ (t .shaped .geometry) (t .shaped .lengths) (length-u64 _) (survey-sound t (y .survey-tables .ensures) (k .before .before .before .if1 .left))
     (k .before .before .if2 .left) (k .before .if3 .left) (sym (k .header .ensures) ∙ ap (ofHeader (s .args .s .now)) (c .before .enum-told .given .1)) _ _ _ (c .refused4 .ensures)
 
 serve-operations-requires : tie.Need-serve-operations-requires
@@ -42,17 +43,12 @@ serve-operations-requires c κs =
     let d = c .before .before .before .before .before .before in
     let k = d .before .before in
     let y = k .before .before .before .before .before .before .before in
-    let s = y .before .before .before .before .before .before .before .before .before .before .before .before in
-    let t = s .pre .0 in (
+    let s = y .before .before .before .before .before .before .before .before .before .before .before in
+    let t = s .pre in (
       serves-known t (y .survey-tables .ensures) (k .before .before .before .if1 .left) (table-long t (y .survey-tables .ensures) (y .survey-tables .kept .1 .1 .1 .1 .0))
-          (s .pre .1) (k .before .before .if2 .left) (k .before .if3 .left),
+          (k .before .before .if2 .left) (k .before .if3 .left),
       tag-short _ (sym (k .header .ensures) ∙ ap (ofHeader (s .args .s .now)) (d .h .given .1)),
     )
-
-same-length-20 : tie.Need-same-length-20
-same-length-20 c =
-    let o = c .before .before .before .before .before .before .before .before .before .before in
-    o .serve-operations .kept .1 .1 .1 .1 .0 ∙ o .before .before .before .before .before .before .before .before .before .before .before .before .before .before .before .before .survey-tables .kept .1 .1 .1 .1 .0
 
 returns-5 : tie.Need-returns-5
 returns-5 c =
@@ -60,9 +56,9 @@ returns-5 c =
     let d = o .before .before .before .before .before .before .before in
     let k = d .before .before in
     let y = k .before .before .before .before .before .before .before in
-    let s = y .before .before .before .before .before .before .before .before .before .before .before .before in
-    let t = s .pre .0 in
-    serves _ _ _ _ _ (t .shaped .geometry) (t .shaped .lengths) (s .pre .1) (survey-sound t (y .survey-tables .ensures) (k .before .before .before .if1 .left))
+    let s = y .before .before .before .before .before .before .before .before .before .before .before in
+    let t = s .pre in
+    serves _ _ _ _ _ (t .shaped .geometry) (t .shaped .lengths) (length-u64 _) (survey-sound t (y .survey-tables .ensures) (k .before .before .before .if1 .left))
     (k .before .before .if2 .left) (k .before .if3 .left) (sym (k .header .ensures) ∙ ap (ofHeader (s .args .s .now)) (d .h .given .1)) (o .serve-operations .ensures)
 
 pub serve-counted-spec : {M : Type 1} → statement M
@@ -77,5 +73,5 @@ serve-counted-spec =
     returns-3
     (λ c κs. search needs) (λ c. search needs) (λ c. search needs) (λ c κs. search needs) (λ c. search needs)
     (λ c. search needs) (λ c. search needs) (λ c. search needs) returns-4
-    serve-operations-requires (λ c. search needs) (λ c. search needs) (λ c. search needs) same-length-20
+    serve-operations-requires (λ c. search needs) (λ c. search needs) (λ c. search needs) (λ c. search needs)
     (λ c. search needs) returns-5)

@@ -14,7 +14,7 @@ returns-2 : tie.Need-returns-2
 returns-2 c =
     let p = c .before .before in
     let t = p .before in
-    passes-ones _ _ (t .before .zero-stateid .ensures) (t .if1 .left) (p .part .ensures) (c .same-bytes .ensures)
+    passes-ones _ _ (t .before .zero-stateid .ensures) (t .if1 .left) (p .part .ensures .bytes-are) (c .same-bytes .ensures)
 
 pub read-stateid-spec : {M : Type 1} → statement M
 read-stateid-spec =

@@ -5,7 +5,7 @@ use Rattle.compound.proofs.stateid.zero_stateid.Statement.{statement}
 use Rattle.compound.proofs.stateid.zero_stateid.Tie as tie
 
 returns : tie.Need-returns
-returns c = c .same-bytes .ensures ∙ ap zeroStateid (c .before .before .part .ensures)
+returns c = c .same-bytes .ensures ∙ ap zeroStateid (c .before .before .part .ensures .bytes-are)
 
 pub zero-stateid-spec : {M : Type 1} → statement M
 zero-stateid-spec =

@@ -1,6 +1,6 @@
 use native.Mathlib.Omega.{arith}
+use Rattle.wire.proofs.FieldLaws.{written-more}
 use borrow.Author.Needs.{needs}
-use Rattle.wire.proofs.FieldLaws.{written-sized, written-more}
 use Rattle.wire.proofs.result.put_copied.Statement.{statement}
 use Rattle.wire.proofs.result.put_copied.Tie as tie
 
@@ -12,13 +12,10 @@ returns c =
     let s = v .before .before .before .before in
     let n = s .before .before .before .before in
     let i = n .before .before .before .before in
-    let pre = i .before .before .before .before .pre in
-    written-sized (omega (arith, pre .0))
-    (written-more (omega (arith, pre .0, pre .1)) (i .put-u32 .ensures)
+    written-more (omega (arith, i .before .before .before .pre)) (i .put-u32 .ensures)
     (λ h. written-more h (n .put-u64 .ensures)
     (λ h. written-more h (s .put-u322 .ensures)
-    (λ h. written-more h (v .put-bytes .ensures)
-    (λ h. written-more h (k .put-bool .ensures) (λ h. y .put-bool2 .ensures))))))
+    (λ h. written-more h (v .put-u642 .ensures) (λ h. written-more h (k .put-bool .ensures) (λ h. y .put-bool2 .ensures)))))
 
 pub put-copied-spec : {M : Type 1} → statement M
 put-copied-spec =

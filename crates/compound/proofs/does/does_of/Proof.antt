@@ -1,0 +1,85 @@
+use mathlib.Core.Path.{refl}
+use Rattle.rules.specs.Run.{does}
+use borrow.Author.Needs.{needs}
+use Rattle.compound.proofs.does.does_of.Statement.{statement}
+use Rattle.compound.proofs.does.does_of.Tie as tie
+
+put-fh-requires : tie.Need-put-fh-requires
+put-fh-requires c κs = rw (c .before .o .given .1) at (c .before .before .before .before .before .pre)
+
+write-requires : tie.Need-write-requires
+write-requires c κs = rw (c .before .o3 .given .1) at (c .before .before .before .before .before .pre)
+
+allocate-requires : tie.Need-allocate-requires
+allocate-requires c κs = rw (c .before .o4 .given .1) at (c .before .before .before .before .before .pre)
+
+copy-requires : tie.Need-copy-requires
+copy-requires c κs = rw (c .before .o5 .given .1) at (c .before .before .before .before .before .pre)
+
+deallocate-requires : tie.Need-deallocate-requires
+deallocate-requires c κs = rw (c .before .o6 .given .1) at (c .before .before .before .before .before .pre)
+
+clone-requires : tie.Need-clone-requires
+clone-requires c κs = rw (c .before .o9 .given .1) at (c .before .before .before .before .before .pre)
+
+returns : tie.Need-returns
+unfolding does
+returns c = rw (c .enum-told .given .1) (record { is = λ st same. refl; applies = λ st counts same e. tt })
+
+returns-2 : tie.Need-returns-2
+returns-2 c = rw (c .before .before .o .given .1) (c .put-fh .ensures)
+
+returns-3 : tie.Need-returns-3
+unfolding does
+returns-3 c = rw (c .before .o2 .given .1) (record { is = λ st same. refl; applies = λ st counts same e. tt })
+
+returns-4 : tie.Need-returns-4
+unfolding does
+returns-4 c = rw (c .enum-told2 .given .1) (record { is = λ st same. refl; applies = λ st counts same e. tt })
+
+returns-5 : tie.Need-returns-5
+unfolding does
+returns-5 c = rw (c .enum-told3 .given .1) (record { is = λ st same. refl; applies = λ st counts same e. tt })
+
+returns-6 : tie.Need-returns-6
+returns-6 c = rw (c .before .before .o3 .given .1) (c .write .ensures)
+
+returns-7 : tie.Need-returns-7
+returns-7 c = rw (c .before .before .o4 .given .1) (c .allocate .ensures)
+
+returns-8 : tie.Need-returns-8
+returns-8 c = rw (c .before .before .o5 .given .1) (c .copy .ensures)
+
+returns-9 : tie.Need-returns-9
+returns-9 c = rw (c .before .before .o6 .given .1) (c .deallocate .ensures)
+
+returns-10 : tie.Need-returns-10
+unfolding does
+returns-10 c = rw (c .before .o7 .given .1) (record { is = λ st same. refl; applies = λ st counts same e. tt })
+
+returns-11 : tie.Need-returns-11
+unfolding does
+returns-11 c = rw (c .before .o8 .given .1) (record { is = λ st same. refl; applies = λ st counts same e. tt })
+
+returns-12 : tie.Need-returns-12
+returns-12 c = rw (c .before .before .o9 .given .1) (c .clone .ensures)
+
+pub does-of-spec : {M : Type 1} → statement M
+does-of-spec =
+    tie.close
+    (tie.spec
+    (λ c. search needs) (λ c. search needs) put-fh-requires (λ c. search needs) (λ c. search needs)
+    (λ c. search needs) (λ c. search needs) write-requires (λ c. search needs) allocate-requires
+    (λ c. search needs) copy-requires (λ c. search needs) deallocate-requires (λ c. search needs)
+    (λ c. search needs) (λ c. search needs) clone-requires returns
+    returns-2
+    returns-3
+    returns-4
+    returns-5
+    returns-6
+    returns-7
+    returns-8
+    returns-9
+    returns-10
+    returns-11
+    returns-12)

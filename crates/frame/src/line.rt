@@ -5,6 +5,7 @@ ghost use lib.ListN.{length, replicate};
 ghost use Rattle.tables.specs.Lent.{geometryOf, after, before};
 ghost use Rattle.rules.specs.Calls.{Contract};
 ghost use Rattle.rules.specs.Line.{frameGeometry, frameCall, answerLine, answerRequest};
+ghost use Rattle.compound.specs.Runner.{outcome};
 ghost use Rattle.frame.specs.LineCall.{lineInto, LinePromise};
 use crate::hex::Request;
 use crate::hex::put_hex;
@@ -39,13 +40,7 @@ fn serve_frame(
     requires { ⌜ now reply ≡ replicate 32768 0 ⌝ }
     ensures { λ r. ⌜ Contract (frameCall (now (s .entry)))
         (before sizes words mem)
-        (record {
-          number = r .number;
-          read = r .read;
-          written = r .written;
-          reply = now (reply .exit);
-          store = after sizes words mem;
-        }) ⌝ }
+        (outcome r reply (after sizes words mem)) ⌝ }
 {
     let verifier = [0u8; 8];
     compound::serve(frame_geometry(), sizes, words, mem, &verifier, s, reply)

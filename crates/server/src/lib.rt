@@ -3,6 +3,7 @@ ghost use mathlib.Core.Path.{_≡_};
 ghost use Rattle.tables.specs.Lent.{geometryOf, after, before};
 ghost use Rattle.rules.specs.Run.{config};
 ghost use Rattle.rules.specs.Calls.{MakePromise, storeRefusal};
+ghost use Rattle.compound.specs.Runner.{call};
 ghost use Rattle.server.specs.Exports.{CountsPromise, ServePromise};
 use tables::Geometry;
 
@@ -103,11 +104,7 @@ pub extern "C" fn compound_serve(
     counts: &mut [u64; 2],
 ) -> u32
     ensures { λ r. ⌜ ServePromise
-        (record {
-          config = config (record { F = files; S = slots; N = blocks; B = «block_size» }) (now (verifier .entry));
-          request = now (request .entry);
-          buffer = now (reply .entry);
-        })
+        (call (config (record { F = files; S = slots; N = blocks; B = «block_size» }) (now (verifier .entry))) request reply)
         (before sizes words mem)
         r (now (counts .exit)) (now (reply .exit))
         (after sizes words mem) ⌝ }

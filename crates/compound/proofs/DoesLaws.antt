@@ -1,8 +1,8 @@
 -- What an operation without error does, and what its edit asks, from the code's values.
-use Prim.Native.Nat.{ℕ, _+_, _-_, _*_, _^_, _≤_, _<_, min}
+use Prim.Native.Nat.{ℕ, _+_, _-_, _^_, _<_, min}
 use mathlib.Core.Path.{_≡_, refl, sym, ap, _∙_}
 use mathlib.Core.Bool.{cond}
-use mathlib.Core.List.{List, []}
+use mathlib.Core.List.{List}
 use native.Mathlib.Omega.{arith}
 use lib.ListN.{length, getD}
 use lib.Dec.{eqb}
@@ -10,7 +10,7 @@ use Rattle.xdr.specs.declared.bytes.Span.{Span}
 use Rattle.xdr.specs.Bytes.{partOf}
 use Rattle.xdr.specs.Decode.{value}
 use Rattle.rules.specs.Lists.{first}
-use Rattle.rules.specs.Store.{Geometry, Store, sizeOf}
+use Rattle.rules.specs.Store.{Geometry, Store}
 use Rattle.rules.specs.Edit.{Edit}
 use Rattle.rules.specs.Operation.{Op, writeReply, copyReply}
 use Rattle.rules.specs.Run.{fileOf, errors, edits, does, sourceCount}
@@ -29,7 +29,7 @@ use Rattle.wire.specs.declared.operation.CopyArgs.{CopyArgs}
 use Rattle.compound.specs.declared.does.Does.{Does}
 use Rattle.wire.specs.Decoded.{meaning}
 use Rattle.compound.specs.Runner.{fileIn, stateOf}
-use Rattle.compound.specs.Does.{Clear, DoesAs}
+use Rattle.compound.specs.Does.{Clear, SourceRead, DoesAs}
 use Rattle.compound.proofs.ErrorLaws.{sized}
 
 abbrev pub empty : Span
@@ -42,115 +42,121 @@ over o n = omega arith
 edits-length : (e : Edit) (reply : ℕ → List ℕ → List ℕ) (o n : ℕ) → edits e (reply (o + n - o)) ≡ edits e (reply n)
 edits-length e reply o n = ap (λ (m : ℕ). edits e (reply m)) (over o n)
 
-module _ {g : Geometry} {sizes : List ℕ} {p : Position} {o : Op} (k : Clear g sizes p o) where
-  clear : (st : Store) → st .sizes ≡ sizes → first (errors g (stateOf p st) o) ≡ 0
-  clear st same = sym (k .no-error st same)
+clear : {sizes : List ℕ} {p : Position} {o : Op} (k : Clear sizes p o) → first (errors (k .geometry) (stateOf p (sized sizes)) o) ≡ 0
+clear {sizes} k = sym (k .no-error (sized sizes) refl)
 
-  source-there : {st : Store} {counts : List ℕ} {f : ℕ} → st .sizes ≡ sizes → EditKnown g st counts f → fileOf (fileIn (p .saved)) < g .F
-  source-there {st} same e = omega (arith, k .named .saved, ap length same, lengths g st (e .shaped .lengths) .files)
+module _ {sizes : List ℕ} {p : Position} {a : CloneArgs} (k : SourceRead sizes p a) where
+  source-there : (g : Geometry) (st : Store) (counts : List ℕ) → st .sizes ≡ sizes → {f : ℕ} → EditKnown g st counts f → fileOf (fileIn (p .saved)) < g .F
+  source-there g st counts same e = omega (arith, k .file, ap length same, lengths g st (e .shaped .lengths) .files)
+
+  pub source-sum : {e n : ℕ} → e ≡ fileOf (fileIn (p .saved)) → n ≡ cond (eqb (a .count) 0) (getD sizes e 0 - a .from) (a .count) → a .to + n < 2 ^ 64
+  source-sum source m = rw (m, source) (k .sum)
 
 -- n bytes of the source, file e, are meant
 meant-is : (p : Position) (sizes : List ℕ) {e n : ℕ} (from count : ℕ) → e ≡ fileOf (fileIn (p .saved)) → n ≡ cond (eqb count 0) (getD sizes e 0 - from) count
     → (st : Store) → st .sizes ≡ sizes → n ≡ sourceCount st (fileOf (fileIn (p .saved))) from count
 meant-is p sizes from count source m st same = m ∙ rw (source, same)
 
-module _ {g : Geometry} {sizes : List ℕ} (p : Position) (s : List ℕ) where
-  pub put-does : (h : Span) {f : ℕ} → Clear g sizes p (meaning s (Operation.PutFh h)) → (length (partOf s h) ≡ 4 → f ≡ value (partOf s h))
-      → DoesAs g sizes s p (meaning s (Operation.PutFh h)) (Does.Sets (Handle.File f) (p .saved))
+module _ (p : Position) (sizes s : List ℕ) where
+  pub put-does : (h : Span) {f : ℕ} → f ≡ value (partOf s h) → DoesAs sizes s p (meaning s (Operation.PutFh h)) (Does.Sets (Handle.File f) (p .saved))
   unfolding does
-  put-does h k is = record {
-    is = λ st same. rw (is (put-clear g (stateOf p st) (partOf s h) (clear k st same) .long));
-    applies = λ st counts same e. tt;
-  }
+  put-does h e = record { is = λ g st same. rw e; applies = λ g st counts same clear known. tt }
 
   -- ---- edits of file f
 
   module _ {f : ℕ} (file : f ≡ fileOf (fileIn (p .current))) where
-    pub write-does : (a : WriteArgs) {part : List ℕ} → Clear g sizes p (meaning s (Operation.Write a)) → part ≡ partOf s (a .data)
-        → DoesAs g sizes s p (meaning s (Operation.Write a))
+    pub write-does : (a : WriteArgs) {part : List ℕ} → part ≡ partOf s (a .data)
+        → DoesAs sizes s p (meaning s (Operation.Write a))
         (Does.Edits (record { file = f; off = a .offset; end = a .offset + length part; act = Act.Write }) (a .data))
     unfolding does
-    write-does a k q = rw (file, q) (record {
-      is = λ st same. edits-length _ writeReply (a .offset) (length (partOf s (a .data)));
-      applies = λ st counts same e.
-          let c = write-clear g (stateOf p st) (partOf s (a .stateid)) (a .offset) (a .stable) (partOf s (a .data)) (clear k st same) in
-          record { known = e; fits = λ l. c .fits (omega (arith, l)); act = refl };
+    write-does a q = rw (file, q) (record {
+      is = λ g st same. edits-length _ writeReply (a .offset) (length (partOf s (a .data)));
+      applies = λ g st counts same clear known.
+          let c = write-clear g (stateOf p st) (partOf s (a .stateid)) (a .offset) (a .stable) (partOf s (a .data)) (sym (clear st same)) in
+          record { known = known; fits = λ l. c .fits (omega (arith, l)); act = refl };
     })
 
-    pub allocate-does : (a : RegionArgs) → Clear g sizes p (meaning s (Operation.Allocate a))
-        → DoesAs g sizes s p (meaning s (Operation.Allocate a))
+    pub allocate-does : (a : RegionArgs) → DoesAs sizes s p (meaning s (Operation.Allocate a))
         (Does.Edits (record { file = f; off = a .offset; end = a .offset + a .length; act = Act.Allocate }) empty)
     unfolding does
-    allocate-does a k = rw file (record {
-      is = λ st same. refl;
-      applies = λ st counts same e.
-          let c = allocate-clear g (stateOf p st) (partOf s (a .stateid)) (a .offset) (a .length) (clear k st same) in
-          record { known = e; fits = λ l. c .fits; act = tt };
+    allocate-does a = rw file (record {
+      is = λ g st same. refl;
+      applies = λ g st counts same clear known.
+          let c = allocate-clear g (stateOf p st) (partOf s (a .stateid)) (a .offset) (a .length) (sym (clear st same)) in
+          record { known = known; fits = λ l. c .fits; act = tt };
     })
 
-    pub deallocate-does : (a : RegionArgs) {end : ℕ} → Clear g sizes p (meaning s (Operation.Deallocate a)) → end ≡ min (a .offset + a .length) (getD sizes f 0)
-        → DoesAs g sizes s p (meaning s (Operation.Deallocate a))
+    pub deallocate-does : (a : RegionArgs) {end : ℕ} → end ≡ min (a .offset + a .length) (getD sizes f 0)
+        → DoesAs sizes s p (meaning s (Operation.Deallocate a))
         (Does.Edits (record { file = f; off = a .offset; end = end; act = Act.Deallocate }) empty)
     unfolding does
-    deallocate-does a {end} k q =
+    deallocate-does a {end} q =
         let cut : end ≡ min (a .offset + a .length) (getD sizes (fileOf (fileIn (p .current))) 0) = rw file at q in
         rw (file, cut) (record {
-          is = λ st same. rw same;
-          applies = λ st counts same e.
-              let d = good g (e .shaped .geometry) in
-              let size = sound-facts g (block-pos d) st (e .shaped .lengths) (e .sound) .fits (fileOf (fileIn (p .current))) (e .file) in
-              record { known = e; fits = λ l. omega (arith, rw same at size); act = rw same (omega arith) };
+          is = λ g st same. rw same;
+          applies = λ g st counts same clear known.
+              let d = good g (known .shaped .geometry) in
+              let size = sound-facts g (block-pos d) st (known .shaped .lengths) (known .sound) .fits (fileOf (fileIn (p .current))) (known .file) in
+              record { known = known; fits = λ l. omega (arith, rw same at size); act = rw same (omega arith) };
         })
 
     -- the source is file e, and n bytes are meant
     module _ {e : ℕ} (source : e ≡ fileOf (fileIn (p .saved))) where
-      pub copy-does : (a : CopyArgs) {n : ℕ} → Clear g sizes p (meaning s (Operation.Copy a)) → n ≡ cond (eqb (a .clone .count) 0) (getD sizes e 0 - a .clone .from) (a .clone .count)
-          → DoesAs g sizes s p (meaning s (Operation.Copy a))
+      pub copy-does : (a : CopyArgs) {n : ℕ} → SourceRead sizes p (a .clone) → n ≡ cond (eqb (a .clone .count) 0) (getD sizes e 0 - a .clone .from) (a .clone .count)
+          → DoesAs sizes s p (meaning s (Operation.Copy a))
           (Does.Edits (record { file = f; off = a .clone .to; end = a .clone .to + n; act = Act.Copy (record { file = e; off = a .clone .from }) }) empty)
       unfolding does
       copy-does a {n} k m = record {
-        is = λ st same. rw (file, source, meant-is p sizes (a .clone .from) (a .clone .count) source m st same) (edits-length _ copyReply (a .clone .to) (sourceCount st (fileOf (fileIn (p .saved))) (a .clone .from) (a .clone .count)));
-        applies = λ st counts same known.
-            let c = copy-clear g (stateOf p st) _ _ (a .clone .from) (a .clone .to) (a .clone .count) _ _ (clear k st same) in
+        is = λ g st same. rw (file, source, meant-is p sizes (a .clone .from) (a .clone .count) source m st same)
+            (edits-length _ copyReply (a .clone .to) (sourceCount st (fileOf (fileIn (p .saved))) (a .clone .from) (a .clone .count)));
+        applies = λ g st counts same clear known.
+            let c = copy-clear g (stateOf p st) _ _ (a .clone .from) (a .clone .to) (a .clone .count) _ _ (sym (clear st same)) in
             rw (file, source, meant-is p sizes (a .clone .from) (a .clone .count) source m st same) (record {
               known = known;
               fits = λ l. c .fits (omega (arith, l));
-              act = record { source = record { file = source-there k same known; inside = rw (over (a .clone .to) (sourceCount st (fileOf (fileIn (p .saved))) (a .clone .from) (a .clone .count))) (c .inside) }; other = c .other };
+              act = record { source = record { file = source-there k g st counts same known; inside = rw (over (a .clone .to) (sourceCount st (fileOf (fileIn (p .saved))) (a .clone .from) (a .clone .count))) (c .inside) }; other = c .other };
             });
       }
 
-      pub clone-does : (a : CloneArgs) {n : ℕ} → Clear g sizes p (meaning s (Operation.Clone a)) → n ≡ cond (eqb (a .count) 0) (getD sizes e 0 - a .from) (a .count)
-          → DoesAs g sizes s p (meaning s (Operation.Clone a))
+      pub clone-does : (a : CloneArgs) {n : ℕ} → SourceRead sizes p a → n ≡ cond (eqb (a .count) 0) (getD sizes e 0 - a .from) (a .count)
+          → DoesAs sizes s p (meaning s (Operation.Clone a))
           (Does.Edits (record { file = f; off = a .to; end = a .to + n; act = Act.Clone (record { file = e; off = a .from }) }) empty)
       unfolding does
       clone-does a {n} k m = record {
-        is = λ st same. rw (file, source, meant-is p sizes (a .from) (a .count) source m st same);
-        applies = λ st counts same known.
-            let c = clone-clear g (stateOf p st) _ _ (a .from) (a .to) (a .count) (clear k st same) in
+        is = λ g st same. rw (file, source, meant-is p sizes (a .from) (a .count) source m st same);
+        applies = λ g st counts same clear known.
+            let c = clone-clear g (stateOf p st) _ _ (a .from) (a .to) (a .count) (sym (clear st same)) in
             rw (file, source, meant-is p sizes (a .from) (a .count) source m st same) (record {
               known = known;
               fits = λ l. c .fits (omega (arith, l));
-              act = record { source = record { file = source-there k same known; inside = rw (over (a .to) (sourceCount st (fileOf (fileIn (p .saved))) (a .from) (a .count))) (c .inside) }; source-even = c .source-even; target-even = c .target-even };
+              act = record {
+                source = record { file = source-there k g st counts same known; inside = rw (over (a .to) (sourceCount st (fileOf (fileIn (p .saved))) (a .from) (a .count))) (c .inside) };
+                source-even = c .source-even;
+                target-even = c .target-even;
+              };
             });
       }
 
-      -- ---- sums that do not wrap
+-- ---- what no error says of the arguments
 
-      pub copy-sum : (a : CopyArgs) {n : ℕ} → Clear g sizes p (meaning s (Operation.Copy a)) → n ≡ cond (eqb (a .clone .count) 0) (getD sizes e 0 - a .clone .from) (a .clone .count) → a .clone .to + n < 2 ^ 64
-      copy-sum a k m =
-          rw (meant-is p sizes (a .clone .from) (a .clone .count) source m (sized sizes) refl)
-          (copy-clear g (stateOf p (sized sizes)) _ _ (a .clone .from) (a .clone .to) (a .clone .count) _ _ (clear k (sized sizes) refl) .sum)
+module _ {p : Position} {sizes : List ℕ} (s : List ℕ) where
+  pub put-long : (h : Span) → Clear sizes p (meaning s (Operation.PutFh h)) → length (partOf s h) ≡ 4
+  put-long h k = put-clear (k .geometry) (stateOf p (sized sizes)) (partOf s h) (clear k) .long
 
-      pub clone-sum : (a : CloneArgs) {n : ℕ} → Clear g sizes p (meaning s (Operation.Clone a)) → n ≡ cond (eqb (a .count) 0) (getD sizes e 0 - a .from) (a .count) → a .to + n < 2 ^ 64
-      clone-sum a k m =
-          rw (meant-is p sizes (a .from) (a .count) source m (sized sizes) refl) (clone-clear g (stateOf p (sized sizes)) _ _ (a .from) (a .to) (a .count) (clear k (sized sizes) refl) .sum)
+  pub write-sum : (a : WriteArgs) → Clear sizes p (meaning s (Operation.Write a)) → a .offset + length (partOf s (a .data)) < 2 ^ 64
+  write-sum a k = write-clear (k .geometry) (stateOf p (sized sizes)) (partOf s (a .stateid)) (a .offset) (a .stable) (partOf s (a .data)) (clear k) .sum
 
-  pub write-sum : (a : WriteArgs) → Clear g sizes p (meaning s (Operation.Write a)) → a .offset + length (partOf s (a .data)) < 2 ^ 64
-  write-sum a k =
-      write-clear g (stateOf p (sized sizes)) (partOf s (a .stateid)) (a .offset) (a .stable) (partOf s (a .data)) (clear k (sized sizes) refl) .sum
+  pub allocate-sum : (a : RegionArgs) → Clear sizes p (meaning s (Operation.Allocate a)) → a .offset + a .length < 2 ^ 64
+  allocate-sum a k = allocate-clear (k .geometry) (stateOf p (sized sizes)) (partOf s (a .stateid)) (a .offset) (a .length) (clear k) .sum
 
-  pub allocate-sum : (a : RegionArgs) → Clear g sizes p (meaning s (Operation.Allocate a)) → a .offset + a .length < 2 ^ 64
-  allocate-sum a k = allocate-clear g (stateOf p (sized sizes)) (partOf s (a .stateid)) (a .offset) (a .length) (clear k (sized sizes) refl) .sum
+  pub deallocate-sum : (a : RegionArgs) → Clear sizes p (meaning s (Operation.Deallocate a)) → a .offset + a .length < 2 ^ 64
+  deallocate-sum a k = deallocate-clear (k .geometry) (stateOf p (sized sizes)) (partOf s (a .stateid)) (a .offset) (a .length) (clear k) .sum
 
-  pub deallocate-sum : (a : RegionArgs) → Clear g sizes p (meaning s (Operation.Deallocate a)) → a .offset + a .length < 2 ^ 64
-  deallocate-sum a k = deallocate-clear g (stateOf p (sized sizes)) (partOf s (a .stateid)) (a .offset) (a .length) (clear k (sized sizes) refl) .sum
+  pub copy-source : (a : CopyArgs) → Clear sizes p (meaning s (Operation.Copy a)) → SourceRead sizes p (a .clone)
+  copy-source a k = record {
+    file = k .named .saved;
+    sum = copy-clear (k .geometry) (stateOf p (sized sizes)) _ _ (a .clone .from) (a .clone .to) (a .clone .count) _ _ (clear k) .sum;
+  }
+
+  pub clone-source : (a : CloneArgs) → Clear sizes p (meaning s (Operation.Clone a)) → SourceRead sizes p a
+  clone-source a k = record { file = k .named .saved; sum = clone-clear (k .geometry) (stateOf p (sized sizes)) _ _ (a .from) (a .to) (a .count) (clear k) .sum }

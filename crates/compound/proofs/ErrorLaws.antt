@@ -1,6 +1,6 @@
 -- The first error of an operation, by its parts: a part that finds nothing hands on to the rest, one that finds something answers it.
 use Prim.Native.Nat.{ℕ, zero, suc, _+_, _-_, _*_, _^_}
-use mathlib.Core.Path.{_≡_, refl, sym, ap, _∙_}
+use mathlib.Core.Path.{_≡_, refl, ap, _∙_}
 use mathlib.Core.Bool.{Bool, true, false, cond, _&&_, _||_, not}
 use mathlib.Core.Option.{Option}
 use mathlib.Core.List.{List, [], _∷_, _++_}
@@ -90,7 +90,7 @@ module _ (g : Geometry) (x : State) (h b : List ℕ) (same : b ≡ h) where
       let long : length h ≡ 4 = rw same at four in
       e ∙ rw (eq-eqb (length h) 4 long, is long)
 
-module _ (g : Geometry) (p : Position) (st : Store) {sizes : List ℕ} (same : st .sizes ≡ sizes) where
+module _ (g : Geometry) (p : Position) (st : Store) where
   abbrev x : State
   x = stateOf p st
 
@@ -99,14 +99,6 @@ module _ (g : Geometry) (p : Position) (st : Store) {sizes : List ℕ} (same : s
 
   abbrev w : Option ℕ
   w = fileIn (p .saved)
-
-  pub seek-first : (i : List ℕ) (o n : ℕ) {f e a r : ℕ} → f ≡ fileOf u → e ≡ first (reads u i) → a ≡ orElse e (cond (ltb 1 n) UNION-NOTSUPP 0)
-      → r ≡ orElse a (cond (leb (getD sizes f 0) o) NXIO 0) → r ≡ first (errors g x (SEEK i o n))
-  unfolding errors
-  seek-first i o n {f} file e a r =
-      let past : leb (getD sizes f 0) o ≡ leb (getD (st .sizes) (fileOf u) 0) o = rw (file, same) in
-      then-row (reads u i ++ ((ltb 1 n, UNION-NOTSUPP) ∷ [])) (leb (getD (st .sizes) (fileOf u) 0) o) NXIO refl
-      (then-row (reads u i) (ltb 1 n) UNION-NOTSUPP refl e refl a) past r
 
   pub write-first : (i : List ℕ) (o s : ℕ) (d : List ℕ) {part : List ℕ} → part ≡ d → {e f r : ℕ} → e ≡ first (writes u i)
       → f ≡ first (region g o (length part)) → r ≡ orElse e f → r ≡ first (errors g x (WRITE i o s d))
@@ -125,24 +117,33 @@ module _ (g : Geometry) (p : Position) (st : Store) {sizes : List ℕ} (same : s
   unfolding errors
   allocate-first i o n e t r = then-row (errors g x (DEALLOCATE i o n)) (ltb 0 n && ltb (g .S * g .B) (o + n)) FBIG refl e t r
 
-  -- the source e and the target f, of which n bytes are meant
-  module _ (i j : List ℕ) (from to count : ℕ) {e f n : ℕ} (source : e ≡ fileOf w) (target : f ≡ fileOf u)
-      (meant : n ≡ cond (eqb count 0) (getD sizes e 0 - from) count) {a : ℕ} (pair : a ≡ first (copies w u i j)) where
-    pub copy-first : (c y : Bool) {past : Bool} {b d k r : ℕ} → b ≡ orElse a (cond (eqb e f) INVAL 0) → past ≡ ltb (getD sizes e 0) (from + count)
-        → d ≡ orElse b (cond past INVAL 0) → k ≡ first (region g to n) → r ≡ orElse d k → r ≡ first (errors g x (COPY i j from to count c y))
+  module _ {sizes : List ℕ} (same : st .sizes ≡ sizes) where
+    pub seek-first : (i : List ℕ) (o n : ℕ) {f e a r : ℕ} → f ≡ fileOf u → e ≡ first (reads u i) → a ≡ orElse e (cond (ltb 1 n) UNION-NOTSUPP 0)
+        → r ≡ orElse a (cond (leb (getD sizes f 0) o) NXIO 0) → r ≡ first (errors g x (SEEK i o n))
     unfolding errors
-    copy-first c y b past d k r = rw (same, ← source, ← target, ← meant)
-        (then-rows (copies w u i j ++ ((eqb e f, INVAL) ∷ (ltb (getD sizes e 0) (from + count), INVAL) ∷ [])) (region g to n) refl
-        (then-row (copies w u i j ++ ((eqb e f, INVAL) ∷ [])) (ltb (getD sizes e 0) (from + count)) INVAL refl
-        (then-row (copies w u i j) (eqb e f) INVAL refl pair refl b) past d) k r)
+    seek-first i o n {f} file e a r =
+        let past : leb (getD sizes f 0) o ≡ leb (getD (st .sizes) (fileOf u) 0) o = rw (file, same) in
+        then-row (reads u i ++ ((ltb 1 n, UNION-NOTSUPP) ∷ [])) (leb (getD (st .sizes) (fileOf u) 0) o) NXIO refl
+        (then-row (reads u i) (ltb 1 n) UNION-NOTSUPP refl e refl a) past r
 
-    pub clone-first : {past meets odd : Bool} {b d h k r : ℕ} → past ≡ ltb (getD sizes e 0) (from + count) → b ≡ orElse a (cond past INVAL 0)
-        → meets ≡ eqb e f && overlap from to n → d ≡ orElse b (cond meets INVAL 0)
-        → odd ≡ uneven g st e from to n → h ≡ orElse d (cond odd INVAL 0)
-        → k ≡ first (region g to n) → r ≡ orElse h k → r ≡ first (errors g x (CLONE i j from to count))
-    unfolding errors
-    clone-first past b meets d odd h k r = rw (same, ← source, ← target, ← meant)
-        (then-rows (copies w u i j ++ ((ltb (getD sizes e 0) (from + count), INVAL) ∷ (eqb e f && overlap from to n, INVAL) ∷ (uneven g (sized sizes) e from to n, INVAL) ∷ [])) (region g to n) refl
-        (then-row (copies w u i j ++ ((ltb (getD sizes e 0) (from + count), INVAL) ∷ (eqb e f && overlap from to n, INVAL) ∷ [])) (uneven g (sized sizes) e from to n) INVAL refl
-        (then-row (copies w u i j ++ ((ltb (getD sizes e 0) (from + count), INVAL) ∷ [])) (eqb e f && overlap from to n) INVAL refl
-        (then-row (copies w u i j) (ltb (getD sizes e 0) (from + count)) INVAL refl pair past b) meets d) (rw same at odd) h) k r)
+    -- the source e and the target f, of which n bytes are meant
+    module _ (i j : List ℕ) (from to count : ℕ) {e f n : ℕ} (source : e ≡ fileOf w) (target : f ≡ fileOf u)
+        (meant : n ≡ cond (eqb count 0) (getD sizes e 0 - from) count) {a : ℕ} (pair : a ≡ first (copies w u i j)) where
+      pub copy-first : (c y : Bool) {past : Bool} {b d k r : ℕ} → b ≡ orElse a (cond (eqb e f) INVAL 0) → past ≡ ltb (getD sizes e 0) (from + count)
+          → d ≡ orElse b (cond past INVAL 0) → k ≡ first (region g to n) → r ≡ orElse d k → r ≡ first (errors g x (COPY i j from to count c y))
+      unfolding errors
+      copy-first c y b past d k r = rw (same, ← source, ← target, ← meant)
+          (then-rows (copies w u i j ++ ((eqb e f, INVAL) ∷ (ltb (getD sizes e 0) (from + count), INVAL) ∷ [])) (region g to n) refl
+          (then-row (copies w u i j ++ ((eqb e f, INVAL) ∷ [])) (ltb (getD sizes e 0) (from + count)) INVAL refl
+          (then-row (copies w u i j) (eqb e f) INVAL refl pair refl b) past d) k r)
+
+      pub clone-first : {past meets odd : Bool} {b d h k r : ℕ} → past ≡ ltb (getD sizes e 0) (from + count) → b ≡ orElse a (cond past INVAL 0)
+          → meets ≡ eqb e f && overlap from to n → d ≡ orElse b (cond meets INVAL 0)
+          → odd ≡ uneven g st e from to n → h ≡ orElse d (cond odd INVAL 0)
+          → k ≡ first (region g to n) → r ≡ orElse h k → r ≡ first (errors g x (CLONE i j from to count))
+      unfolding errors
+      clone-first past b meets d odd h k r = rw (same, ← source, ← target, ← meant)
+          (then-rows (copies w u i j ++ ((ltb (getD sizes e 0) (from + count), INVAL) ∷ (eqb e f && overlap from to n, INVAL) ∷ (uneven g (sized sizes) e from to n, INVAL) ∷ [])) (region g to n) refl
+          (then-row (copies w u i j ++ ((ltb (getD sizes e 0) (from + count), INVAL) ∷ (eqb e f && overlap from to n, INVAL) ∷ [])) (uneven g (sized sizes) e from to n) INVAL refl
+          (then-row (copies w u i j ++ ((ltb (getD sizes e 0) (from + count), INVAL) ∷ [])) (eqb e f && overlap from to n) INVAL refl
+          (then-row (copies w u i j) (ltb (getD sizes e 0) (from + count)) INVAL refl pair past b) meets d) (rw same at odd) h) k r)

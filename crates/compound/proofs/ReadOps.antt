@@ -1,24 +1,21 @@
 -- READ, READ_PLUS, SEEK and GETFH: the bodies as they are written.
 use Prim.Native.Nat.{ℕ, _+_, _-_, _*_, _≤_, _<_, min}
 use mathlib.Core.Path.{_≡_, refl, sym, ap, _∙_}
-use mathlib.Core.Bool.{Bool, true, false, cond, not}
-use mathlib.Core.Option.{Option, none, some}
-use mathlib.Core.List.{List, [], _∷_, _++_, append-assoc, append-nil}
+use mathlib.Core.Bool.{Bool, true}
+use mathlib.Core.List.{List, _++_, append-assoc, append-nil}
 use mathlib.Core.Logic.{_≢_}
 use native.Mathlib.Omega.{arith}
-use borrow.Author.Tests.{lt-ltb, le-ltb, lt-leb, le-leb}
-use lib.ListN.{length, getD, length-append}
-use lib.Dec.{leb, ltb, eqb}
+use lib.ListN.{length, length-append}
+use lib.Dec.{leb, eqb}
 use Rattle.xdr.specs.Bytes.{splice, Written}
 use Rattle.xdr.specs.Encode.{be, u32, u64, bool, opaque, opaqueSize, concatMap}
 use Rattle.xdr.proofs.BytesLaws.{length-splice, written-then}
 use Rattle.xdr.proofs.EncodeLaws.{length-u32, length-bool}
-use Rattle.rules.specs.Lists.{first}
 use Rattle.rules.specs.Store.{Geometry, Store, sizeOf, bytesFrom, sound}
 use Rattle.rules.specs.Read.{granted, readPieces, seekPlace}
 use Rattle.rules.specs.Operation.{pieceBytes, readReply, readPlusReply, seekResult, seekReply}
 use Rattle.rules.specs.Run.{fileOf}
-use Rattle.tables.specs.Tables.{TableTrue, Shaped}
+use Rattle.tables.specs.Tables.{Shaped}
 use Rattle.store.specs.Readable.{Placed, Readable}
 use Rattle.compound.specs.Pieces.{PiecesFit, PiecesPut, piecesTo, piecesSize}
 use Rattle.rules.proofs.SoundStore.{Sound}

@@ -3,16 +3,15 @@ use Prim.Native.Nat.{ℕ, zero, suc, _+_, _-_, _^_, _≤_, _<_}
 use mathlib.Core.Path.{_≡_, refl, sym, ap, _∙_, subst}
 use mathlib.Core.Bool.{Bool, true, false, cond}
 use mathlib.Core.Option.{Option, none, some}
-use mathlib.Core.List.{List, [], _++_, append-nil, append-assoc}
+use mathlib.Core.List.{List, [], _++_, append-assoc}
 use mathlib.Core.Logic.{_≢_}
 use native.Mathlib.Decide.{decLt}
 use native.Mathlib.Omega.{arith}
-use borrow.Author.Tests.{leb-true, leb-false, le-leb, lt-leb}
+use borrow.Author.Tests.{le-leb}
 use lib.ListN.{length}
 use Rattle.xdr.specs.declared.bytes.Span.{Span}
-use Rattle.xdr.specs.Bytes.{partOf, splice, Written}
+use Rattle.xdr.specs.Bytes.{partOf, splice}
 use Rattle.xdr.specs.Encode.{u32}
-use Rattle.xdr.proofs.BytesLaws.{written-then}
 use Rattle.rules.specs.Lists.{first}
 use Rattle.rules.specs.Store.{Geometry, Store, need, fitsPool}
 use Rattle.rules.specs.Edit.{Edit, edited}

@@ -1,7 +1,10 @@
 -- What the code's account of an operation says.
-use Prim.Native.Nat.{ℕ, _-_}
+use Prim.Native.Nat.{ℕ, _+_, _-_, _^_, _<_}
 use mathlib.Core.Path.{_≡_}
+use mathlib.Core.Bool.{cond}
 use mathlib.Core.List.{List, []}
+use lib.ListN.{length, getD}
+use lib.Dec.{eqb}
 use Rattle.xdr.specs.Bytes.{partOf}
 use Rattle.xdr.specs.Encode.{u32, opaque}
 use Rattle.rules.specs.Store.{Geometry, Store}
@@ -12,6 +15,7 @@ use Rattle.store.specs.declared.edit.Edit.{Edit}
 use Rattle.store.specs.EditPromises.{EditKnown}
 use Rattle.store.specs.Edits.{editFrom, Applies}
 use Rattle.compound.specs.declared.answer.Position.{Position}
+use Rattle.wire.specs.declared.operation.CloneArgs.{CloneArgs}
 use Rattle.compound.specs.declared.reads.View.{View}
 use Rattle.compound.specs.declared.does.Does as Code
 use Rattle.compound.specs.Runner.{fileIn, stateOf, Named}
@@ -47,12 +51,19 @@ AppliesIn g s st counts (Code.Does.Sets current saved) = Unit {0}
 AppliesIn g s st counts (Code.Does.Shows v) = Unit {0}
 AppliesIn g s st counts (Code.Does.Edits e d) = Applies g st counts e (partOf s d)
 
--- an operation without error, and handles that name files
-pub record Clear (g : Geometry) (sizes : List ℕ) (p : Position) (o : Op) : Type 0 where
-  pub named : Named g sizes p
-  pub no-error : FirstError g sizes p o 0
+-- the source is a file, and the target's region has an end
+pub record SourceRead (sizes : List ℕ) (p : Position) (a : CloneArgs) : Type 0 where
+  pub file : fileOf (fileIn (p .saved)) < length sizes
+  pub sum : a .to + cond (eqb (a .count) 0) (getD sizes (fileOf (fileIn (p .saved))) 0 - a .from) (a .count) < 2 ^ 64
+
+-- an operation without error, in some geometry, and handles that name files
+pub record Clear (sizes : List ℕ) (p : Position) (o : Op) : Type 0 where
+  pub geometry : Geometry
+  pub named : Named geometry sizes p
+  pub no-error : FirstError geometry sizes p o 0
 
 -- r is what it does, in every state with these handles and sizes
-pub record DoesAs (g : Geometry) (sizes s : List ℕ) (p : Position) (o : Op) (r : Code.Does) : Type 0 where
-  pub is : (st : Store) → st .sizes ≡ sizes → doesOf g s p st r ≡ does g (stateOf p st) o
-  pub applies : (st : Store) (counts : List ℕ) → st .sizes ≡ sizes → EditKnown g st counts (fileOf (fileIn (p .current))) → AppliesIn g s st counts r
+pub record DoesAs (sizes s : List ℕ) (p : Position) (o : Op) (r : Code.Does) : Type 0 where
+  pub is : (g : Geometry) (st : Store) → st .sizes ≡ sizes → doesOf g s p st r ≡ does g (stateOf p st) o
+  pub applies : (g : Geometry) (st : Store) (counts : List ℕ) → st .sizes ≡ sizes → FirstError g sizes p o 0
+      → EditKnown g st counts (fileOf (fileIn (p .current))) → AppliesIn g s st counts r

@@ -1,9 +1,13 @@
 // What an operation without error does: it sets the handles, shows, or edits.
 ghost use mathlib.Core.Path.{_≡_};
-ghost use Prim.Native.Nat.{_+_, _^_, _<_, min};
-ghost use Rattle.tables.specs.Lent.{geometryOf};
+ghost use mathlib.Core.List.{List};
+ghost use Prim.Native.Nat.{ℕ, _+_, _^_, _<_, min};
+ghost use lib.ListN.{length};
+ghost use Rattle.xdr.specs.Bytes.{partOf};
+ghost use Rattle.rules.specs.Run.{fileOf};
 ghost use Rattle.wire.specs.Decoded.{meaning};
-ghost use Rattle.compound.specs.Does.{Clear, DoesAs};
+ghost use Rattle.compound.specs.Does.{Clear, SourceRead, DoesAs};
+ghost use Rattle.compound.specs.Runner.{fileIn};
 use crate::answer::Handle;
 use crate::answer::Position;
 use crate::answer::file_of;
@@ -13,7 +17,6 @@ use crate::reads::View;
 use store::Act;
 use store::Edit;
 use store::Source;
-use tables::Geometry;
 use wire::CloneArgs;
 use wire::CopyArgs;
 use wire::Operation;
@@ -28,17 +31,17 @@ pub enum Does {
     Edits(Edit, Span),
 }
 
-fn put_fh(g: Geometry, sizes: &[u64], s: &[u8], h: Span, p: Position) -> Does
-    requires { ⌜ Clear (geometryOf g) (now sizes) p (meaning (now s) (Operation.PutFh h)) ⌝ }
-    ensures { λ r. ⌜ DoesAs (geometryOf g) (now (sizes .entry)) (now (s .entry)) p (meaning (now (s .entry)) (Operation.PutFh h)) r ⌝ }
+fn put_fh(s: &[u8], h: Span, p: Position) -> Does
+    requires { ⌜ length (partOf (now s) h) ≡ 4 ⌝ }
+    ensures { λ r. ⌜ ((sizes : List ℕ) → DoesAs sizes (now (s .entry)) p (meaning (now (s .entry)) (Operation.PutFh h)) r) ⌝ }
 {
     let saved = p.saved;
     Does::Sets(Handle::File(handle_file(s, h)), saved)
 }
 
-fn write(g: Geometry, sizes: &[u64], s: &[u8], a: WriteArgs, p: Position) -> Does
-    requires { ⌜ Clear (geometryOf g) (now sizes) p (meaning (now s) (Operation.Write a)) ⌝ }
-    ensures { λ r. ⌜ DoesAs (geometryOf g) (now (sizes .entry)) (now (s .entry)) p (meaning (now (s .entry)) (Operation.Write a)) r ⌝ }
+fn write(s: &[u8], a: WriteArgs, p: Position) -> Does
+    requires { ⌜ a .offset + length (partOf (now s) (a .data)) < 2 ^ 64 ⌝ }
+    ensures { λ r. ⌜ ((sizes : List ℕ) → DoesAs sizes (now (s .entry)) p (meaning (now (s .entry)) (Operation.Write a)) r) ⌝ }
 {
     let current = p.current;
     let d = a.data;
@@ -56,17 +59,18 @@ fn write(g: Geometry, sizes: &[u64], s: &[u8], a: WriteArgs, p: Position) -> Doe
     )
 }
 
-fn allocate(g: Geometry, sizes: &[u64], s: &[u8], a: RegionArgs, p: Position) -> Does
-    requires { ⌜ Clear (geometryOf g) (now sizes) p (meaning (now s) (Operation.Allocate a)) ⌝ }
-    ensures { λ r. ⌜ DoesAs (geometryOf g) (now (sizes .entry)) (now (s .entry)) p (meaning (now (s .entry)) (Operation.Allocate a)) r ⌝ }
+fn allocate(a: RegionArgs, p: Position) -> Does
+    requires { ⌜ a .offset + a .length < 2 ^ 64 ⌝ }
+    ensures { λ r. ⌜ ((sizes s : List ℕ) → DoesAs sizes s p (meaning s (Operation.Allocate a)) r) ⌝ }
 {
     let current = p.current;
     let file = file_of(current);
+    let end = a.offset + a.length;
     Does::Edits(
         Edit {
             file,
             off: a.offset as usize,
-            end: (a.offset + a.length) as usize,
+            end: end as usize,
             act: Act::Allocate,
         },
         Span { start: 0, len: 0 },
@@ -85,9 +89,9 @@ fn cut_end(off: u64, n: u64, size: u64) -> u64
     size
 }
 
-fn deallocate(g: Geometry, sizes: &[u64], s: &[u8], a: RegionArgs, p: Position) -> Does
-    requires { ⌜ Clear (geometryOf g) (now sizes) p (meaning (now s) (Operation.Deallocate a)) ⌝ }
-    ensures { λ r. ⌜ DoesAs (geometryOf g) (now (sizes .entry)) (now (s .entry)) p (meaning (now (s .entry)) (Operation.Deallocate a)) r ⌝ }
+fn deallocate(sizes: &[u64], a: RegionArgs, p: Position) -> Does
+    requires { ⌜ (a .offset + a .length < 2 ^ 64) × (fileOf (fileIn (p .current)) < length (now sizes)) ⌝ }
+    ensures { λ r. ⌜ ((s : List ℕ) → DoesAs (now (sizes .entry)) s p (meaning s (Operation.Deallocate a)) r) ⌝ }
 {
     let current = p.current;
     let file = file_of(current);
@@ -103,9 +107,9 @@ fn deallocate(g: Geometry, sizes: &[u64], s: &[u8], a: RegionArgs, p: Position) 
     )
 }
 
-fn copy(g: Geometry, sizes: &[u64], s: &[u8], a: CopyArgs, p: Position) -> Does
-    requires { ⌜ Clear (geometryOf g) (now sizes) p (meaning (now s) (Operation.Copy a)) ⌝ }
-    ensures { λ r. ⌜ DoesAs (geometryOf g) (now (sizes .entry)) (now (s .entry)) p (meaning (now (s .entry)) (Operation.Copy a)) r ⌝ }
+fn copy(sizes: &[u64], a: CopyArgs, p: Position) -> Does
+    requires { ⌜ SourceRead (now sizes) p (a .clone) ⌝ }
+    ensures { λ r. ⌜ ((s : List ℕ) → DoesAs (now (sizes .entry)) s p (meaning s (Operation.Copy a)) r) ⌝ }
 {
     let k = a.clone;
     let current = p.current;
@@ -113,11 +117,12 @@ fn copy(g: Geometry, sizes: &[u64], s: &[u8], a: CopyArgs, p: Position) -> Does
     let file = file_of(current);
     let source = file_of(saved);
     let n = source_count(sizes[source], k.from, k.count);
+    let end = k.to + n;
     Does::Edits(
         Edit {
             file,
             off: k.to as usize,
-            end: (k.to + n) as usize,
+            end: end as usize,
             act: Act::Copy(Source {
                 file: source,
                 off: k.from as usize,
@@ -127,20 +132,21 @@ fn copy(g: Geometry, sizes: &[u64], s: &[u8], a: CopyArgs, p: Position) -> Does
     )
 }
 
-fn clone(g: Geometry, sizes: &[u64], s: &[u8], a: CloneArgs, p: Position) -> Does
-    requires { ⌜ Clear (geometryOf g) (now sizes) p (meaning (now s) (Operation.Clone a)) ⌝ }
-    ensures { λ r. ⌜ DoesAs (geometryOf g) (now (sizes .entry)) (now (s .entry)) p (meaning (now (s .entry)) (Operation.Clone a)) r ⌝ }
+fn clone(sizes: &[u64], a: CloneArgs, p: Position) -> Does
+    requires { ⌜ SourceRead (now sizes) p a ⌝ }
+    ensures { λ r. ⌜ ((s : List ℕ) → DoesAs (now (sizes .entry)) s p (meaning s (Operation.Clone a)) r) ⌝ }
 {
     let current = p.current;
     let saved = p.saved;
     let file = file_of(current);
     let source = file_of(saved);
     let n = source_count(sizes[source], a.from, a.count);
+    let end = a.to + n;
     Does::Edits(
         Edit {
             file,
             off: a.to as usize,
-            end: (a.to + n) as usize,
+            end: end as usize,
             act: Act::Clone(Source {
                 file: source,
                 off: a.from as usize,
@@ -150,24 +156,24 @@ fn clone(g: Geometry, sizes: &[u64], s: &[u8], a: CloneArgs, p: Position) -> Doe
     )
 }
 
-pub fn does_of(g: Geometry, sizes: &[u64], s: &[u8], o: Operation, p: Position) -> Does
-    requires { ⌜ Clear (geometryOf g) (now sizes) p (meaning (now s) o) ⌝ }
-    ensures { λ r. ⌜ DoesAs (geometryOf g) (now (sizes .entry)) (now (s .entry)) p (meaning (now (s .entry)) o) r ⌝ }
+pub fn does_of(sizes: &[u64], s: &[u8], o: Operation, p: Position) -> Does
+    requires { ⌜ Clear (now sizes) p (meaning (now s) o) ⌝ }
+    ensures { λ r. ⌜ DoesAs (now (sizes .entry)) (now (s .entry)) p (meaning (now (s .entry)) o) r ⌝ }
 {
     let current = p.current;
     let saved = p.saved;
     match o {
         Operation::GetFh => Does::Shows(View::Handle),
-        Operation::PutFh(h) => put_fh(g, sizes, s, h, p),
+        Operation::PutFh(h) => put_fh(s, h, p),
         Operation::Read(a) => Does::Shows(View::Read(a)),
         Operation::RestoreFh => Does::Sets(saved, saved),
         Operation::SaveFh => Does::Sets(current, current),
-        Operation::Write(a) => write(g, sizes, s, a, p),
-        Operation::Allocate(a) => allocate(g, sizes, s, a, p),
-        Operation::Copy(a) => copy(g, sizes, s, a, p),
-        Operation::Deallocate(a) => deallocate(g, sizes, s, a, p),
+        Operation::Write(a) => write(s, a, p),
+        Operation::Allocate(a) => allocate(a, p),
+        Operation::Copy(a) => copy(sizes, a, p),
+        Operation::Deallocate(a) => deallocate(sizes, a, p),
         Operation::ReadPlus(a) => Does::Shows(View::ReadPlus(a)),
         Operation::Seek(a) => Does::Shows(View::Seek(a)),
-        Operation::Clone(a) => clone(g, sizes, s, a, p),
+        Operation::Clone(a) => clone(sizes, a, p),
     }
 }

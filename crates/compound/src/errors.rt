@@ -1,13 +1,16 @@
 // The errors of an operation in their order. The tests change nothing, so all of them are made; the first that holds is the answer.
 ghost use mathlib.Core.Path.{_≡_};
 ghost use mathlib.Core.Bool.{true, cond};
+ghost use Prim.Native.Nat.{_<_};
 ghost use lib.ListN.{length};
 ghost use Rattle.xdr.specs.Bytes.{partOf};
 ghost use Rattle.rules.specs.Lists.{first};
-ghost use Rattle.rules.specs.Store.{goodGeometry};
+ghost use Rattle.rules.specs.Store as G;
+ghost use Rattle.rules.specs.Store.{goodGeometry, Store};
+ghost use Rattle.rules.specs.Run.{State, fileOf, errors};
 ghost use Rattle.tables.specs.Lent.{geometryOf};
 ghost use Rattle.wire.specs.Decoded.{meaning};
-ghost use Rattle.compound.specs.Runner.{fileIn, Named};
+ghost use Rattle.compound.specs.Runner.{fileIn, stateOf, Named};
 ghost use Rattle.compound.specs.Errors.{orElse, needsFile, reads, writes, copies, region, FirstError};
 use crate::answer::Answer;
 use crate::answer::Handle;
@@ -99,8 +102,8 @@ fn region_error(g: Geometry, off: u64, n: u64) -> u32
 
 // ---- each operation
 
-fn put_fh_error(g: Geometry, sizes: &[u64], s: &[u8], d: Span, p: Position) -> u32
-    ensures { λ r. ⌜ FirstError (geometryOf g) (now (sizes .entry)) p (meaning (now (s .entry)) (Operation.PutFh d)) r ⌝ }
+fn put_fh_error(g: Geometry, s: &[u8], d: Span) -> u32
+    ensures { λ r. ⌜ ((x : State) → r ≡ first (errors (geometryOf g) x (meaning (now (s .entry)) (Operation.PutFh d)))) ⌝ }
 {
     if xdr::part(s, d).len() != 4 {
         return Answer::BADHANDLE;
@@ -108,9 +111,9 @@ fn put_fh_error(g: Geometry, sizes: &[u64], s: &[u8], d: Span, p: Position) -> u
     or_if(0, g.files <= handle_file(s, d), Answer::STALE)
 }
 
-fn seek_error(g: Geometry, sizes: &[u64], s: &[u8], a: ReadArgs, p: Position) -> u32
-    requires { ⌜ Named (geometryOf g) (now sizes) p ⌝ }
-    ensures { λ r. ⌜ FirstError (geometryOf g) (now (sizes .entry)) p (meaning (now (s .entry)) (Operation.Seek a)) r ⌝ }
+fn seek_error(sizes: &[u64], s: &[u8], a: ReadArgs, p: Position) -> u32
+    requires { ⌜ fileOf (fileIn (p .current)) < length (now sizes) ⌝ }
+    ensures { λ r. ⌜ ((g : G.Geometry) → FirstError g (now (sizes .entry)) p (meaning (now (s .entry)) (Operation.Seek a)) r) ⌝ }
 {
     let current = p.current;
     let f = file_of(current);
@@ -119,9 +122,9 @@ fn seek_error(g: Geometry, sizes: &[u64], s: &[u8], a: ReadArgs, p: Position) ->
     or_if(e, sizes[f] <= a.offset, Answer::NXIO)
 }
 
-fn write_error(g: Geometry, sizes: &[u64], s: &[u8], a: WriteArgs, p: Position) -> u32
-    requires { ⌜ Named (geometryOf g) (now sizes) p ⌝ }
-    ensures { λ r. ⌜ FirstError (geometryOf g) (now (sizes .entry)) p (meaning (now (s .entry)) (Operation.Write a)) r ⌝ }
+fn write_error(g: Geometry, s: &[u8], a: WriteArgs, p: Position) -> u32
+    requires { ⌜ goodGeometry (geometryOf g) ≡ true ⌝ }
+    ensures { λ r. ⌜ ((st : Store) → r ≡ first (errors (geometryOf g) (stateOf p st) (meaning (now (s .entry)) (Operation.Write a)))) ⌝ }
 {
     let current = p.current;
     let e = editing_error(s, a.stateid, current);
@@ -129,16 +132,16 @@ fn write_error(g: Geometry, sizes: &[u64], s: &[u8], a: WriteArgs, p: Position) 
     or_else(e, region_error(g, a.offset, n))
 }
 
-fn allocate_error(g: Geometry, sizes: &[u64], s: &[u8], a: RegionArgs, p: Position) -> u32
-    requires { ⌜ Named (geometryOf g) (now sizes) p ⌝ }
-    ensures { λ r. ⌜ FirstError (geometryOf g) (now (sizes .entry)) p (meaning (now (s .entry)) (Operation.Allocate a)) r ⌝ }
+fn allocate_error(g: Geometry, s: &[u8], a: RegionArgs, p: Position) -> u32
+    requires { ⌜ goodGeometry (geometryOf g) ≡ true ⌝ }
+    ensures { λ r. ⌜ ((st : Store) → r ≡ first (errors (geometryOf g) (stateOf p st) (meaning (now (s .entry)) (Operation.Allocate a)))) ⌝ }
 {
-    let e = deallocate_error(g, sizes, s, a, p);
+    let e = deallocate_error(s, a, p);
     or_if(e, too_big(g, a.offset, a.length), Answer::FBIG)
 }
 
-fn deallocate_error(g: Geometry, sizes: &[u64], s: &[u8], a: RegionArgs, p: Position) -> u32
-    ensures { λ r. ⌜ FirstError (geometryOf g) (now (sizes .entry)) p (meaning (now (s .entry)) (Operation.Deallocate a)) r ⌝ }
+fn deallocate_error(s: &[u8], a: RegionArgs, p: Position) -> u32
+    ensures { λ r. ⌜ ((g : G.Geometry) (st : Store) → r ≡ first (errors g (stateOf p st) (meaning (now (s .entry)) (Operation.Deallocate a)))) ⌝ }
 {
     let current = p.current;
     let e = editing_error(s, a.stateid, current);
@@ -192,16 +195,16 @@ pub fn error(g: Geometry, sizes: &[u64], s: &[u8], o: Operation, p: Position) ->
     let saved = p.saved;
     match o {
         Operation::GetFh => handle_error(current),
-        Operation::PutFh(h) => put_fh_error(g, sizes, s, h, p),
+        Operation::PutFh(h) => put_fh_error(g, s, h),
         Operation::Read(a) => reading_error(s, a.stateid, current),
         Operation::RestoreFh => handle_error(saved),
         Operation::SaveFh => handle_error(current),
-        Operation::Write(a) => write_error(g, sizes, s, a, p),
-        Operation::Allocate(a) => allocate_error(g, sizes, s, a, p),
+        Operation::Write(a) => write_error(g, s, a, p),
+        Operation::Allocate(a) => allocate_error(g, s, a, p),
         Operation::Copy(a) => copy_error(g, sizes, s, a, p),
-        Operation::Deallocate(a) => deallocate_error(g, sizes, s, a, p),
+        Operation::Deallocate(a) => deallocate_error(s, a, p),
         Operation::ReadPlus(a) => reading_error(s, a.stateid, current),
-        Operation::Seek(a) => seek_error(g, sizes, s, a, p),
+        Operation::Seek(a) => seek_error(sizes, s, a, p),
         Operation::Clone(a) => clone_error(g, sizes, s, a, p),
     }
 }

@@ -101,7 +101,7 @@ fn operation(
     if e != 0 {
         return without_body(k, e, p, reply);
     }
-    match does_of(g, sizes, s, o, p) {
+    match does_of(sizes, s, o, p) {
         Does::Sets(current, saved) => {
             let at = p.at;
             without_body(k, 0, Position { current, saved, at }, reply)

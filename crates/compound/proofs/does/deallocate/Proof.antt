@@ -1,16 +1,16 @@
-use Rattle.compound.proofs.DoesLaws.{deallocate-does, deallocate-sum}
+use Rattle.compound.proofs.DoesLaws.{deallocate-does}
 use borrow.Author.Needs.{needs}
 use Rattle.compound.proofs.does.deallocate.Statement.{statement}
 use Rattle.compound.proofs.does.deallocate.Tie as tie
 
 cut-end-requires : tie.Need-cut-end-requires
-cut-end-requires c κs = let s = c .before .before .before .before in deallocate-sum (s .args .p) (s .args .s .now) (s .args .a) (s .pre)
+cut-end-requires c κs = search needs
 
 returns : tie.Need-returns
 returns c =
     let f = c .before .before in
-    let s = f .before .before .before in
-    deallocate-does (s .args .p) (s .args .s .now) (f .file-of .ensures) (s .args .a) (s .pre) (c .cut-end .ensures)
+    let s = f .before .before in
+    λ r. deallocate-does (s .args .p) (s .args .sizes .now) r (f .file-of .ensures) (s .args .a) (c .cut-end .ensures)
 
 pub deallocate-spec : {M : Type 1} → statement M
 deallocate-spec =

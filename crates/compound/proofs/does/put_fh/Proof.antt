@@ -4,7 +4,7 @@ use Rattle.compound.proofs.does.put_fh.Statement.{statement}
 use Rattle.compound.proofs.does.put_fh.Tie as tie
 
 returns : tie.Need-returns
-returns c = let s = c .before .before .before in put-does (s .args .p) (s .args .s .now) (s .args .h) (s .pre) (c .handle-file .ensures)
+returns c = let s = c .before .before in λ sizes. put-does (s .args .p) sizes (s .args .s .now) (s .args .h) (c .handle-file .ensures (s .pre))
 
 pub put-fh-spec : {M : Type 1} → statement M
 put-fh-spec =

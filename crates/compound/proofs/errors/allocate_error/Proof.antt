@@ -8,9 +8,9 @@ use Rattle.compound.proofs.errors.allocate_error.Tie as tie
 returns : tie.Need-returns
 returns c =
     let e = c .before .before in
-    let a = e .before .before .before .args in
-    λ st same. allocate-first (geometryOf (a .g)) (a .p) st same (partOf (a .s .now) (a .a .stateid)) (a .a .offset) (a .a .length)
-    (e .deallocate-error .ensures st same) (c .before .too-big .ensures) (c .or-if .ensures)
+    let a = e .before .before .args in
+    λ st. allocate-first (geometryOf (a .g)) (a .p) st (partOf (a .s .now) (a .a .stateid)) (a .a .offset) (a .a .length)
+    (e .deallocate-error .ensures _ st) (c .before .too-big .ensures) (c .or-if .ensures)
 
 pub allocate-error-spec : {M : Type 1} → statement M
 allocate-error-spec =

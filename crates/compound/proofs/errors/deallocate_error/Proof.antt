@@ -1,5 +1,4 @@
 use Rattle.xdr.specs.Bytes.{partOf}
-use Rattle.tables.specs.Lent.{geometryOf}
 use Rattle.compound.proofs.ErrorLaws.{deallocate-first}
 use borrow.Author.Needs.{needs}
 use Rattle.compound.proofs.errors.deallocate_error.Statement.{statement}
@@ -8,8 +7,8 @@ use Rattle.compound.proofs.errors.deallocate_error.Tie as tie
 returns : tie.Need-returns
 returns c =
     let e = c .before .before .before .before in
-    let a = e .before .before .before .args in
-    λ st same. deallocate-first (geometryOf (a .g)) (a .p) st same (partOf (a .s .now) (a .a .stateid)) (a .a .offset) (a .a .length)
+    let a = e .before .before .args in
+    λ g st. deallocate-first g (a .p) st (partOf (a .s .now) (a .a .stateid)) (a .a .offset) (a .a .length)
     (e .editing-error .ensures) (c .before .before .before .too-far .ensures) (c .before .before .or-if .ensures) (c .or-if2 .ensures)
 
 pub deallocate-error-spec : {M : Type 1} → statement M

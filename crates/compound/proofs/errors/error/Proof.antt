@@ -8,7 +8,7 @@ unfolding errors
 returns c = rw (c .before .enum-told .given .1) (λ st same. c .handle-error .ensures)
 
 returns-2 : tie.Need-returns-2
-returns-2 c = rw (c .before .before .o .given .1) (c .put-fh-error .ensures)
+returns-2 c = rw (c .before .before .o .given .1) (λ st same. c .put-fh-error .ensures _)
 
 returns-3 : tie.Need-returns-3
 unfolding errors
@@ -23,23 +23,23 @@ unfolding errors
 returns-5 c = rw (c .before .enum-told3 .given .1) (λ st same. c .handle-error3 .ensures)
 
 returns-6 : tie.Need-returns-6
-returns-6 c = rw (c .before .before .o3 .given .1) (c .write-error .ensures)
+returns-6 c = rw (c .before .before .o3 .given .1) (λ st same. c .write-error .ensures st)
 
 returns-7 : tie.Need-returns-7
-returns-7 c = rw (c .before .before .o4 .given .1) (c .allocate-error .ensures)
+returns-7 c = rw (c .before .before .o4 .given .1) (λ st same. c .allocate-error .ensures st)
 
 returns-8 : tie.Need-returns-8
 returns-8 c = rw (c .before .before .o5 .given .1) (c .copy-error .ensures)
 
 returns-9 : tie.Need-returns-9
-returns-9 c = rw (c .before .before .o6 .given .1) (c .deallocate-error .ensures)
+returns-9 c = rw (c .before .before .o6 .given .1) (λ st same. c .deallocate-error .ensures _ st)
 
 returns-10 : tie.Need-returns-10
 unfolding errors
 returns-10 c = rw (c .before .before .o7 .given .1) (λ st same. c .reading-error2 .ensures)
 
 returns-11 : tie.Need-returns-11
-returns-11 c = rw (c .before .before .o8 .given .1) (c .seek-error .ensures)
+returns-11 c = rw (c .before .before .o8 .given .1) (c .seek-error .ensures _)
 
 returns-12 : tie.Need-returns-12
 returns-12 c = rw (c .before .before .o9 .given .1) (c .clone-error .ensures)

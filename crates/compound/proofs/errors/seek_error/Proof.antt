@@ -1,5 +1,4 @@
 use Rattle.xdr.specs.Bytes.{partOf}
-use Rattle.tables.specs.Lent.{geometryOf}
 use Rattle.compound.proofs.ErrorLaws.{seek-first}
 use borrow.Author.Needs.{needs}
 use Rattle.compound.proofs.errors.seek_error.Statement.{statement}
@@ -9,7 +8,7 @@ returns : tie.Need-returns
 returns c =
     let e = c .before .before .before .before .before in
     let a = e .before .before .before .before .args in
-    λ st same. seek-first (geometryOf (a .g)) (a .p) st same (partOf (a .s .now) (a .a .stateid)) (a .a .offset) (a .a .count)
+    λ g st same. seek-first g (a .p) st same (partOf (a .s .now) (a .a .stateid)) (a .a .offset) (a .a .count)
     (e .before .file-of .ensures) (e .reading-error .ensures) (c .before .before .before .or-if .ensures) (c .or-if2 .ensures)
 
 pub seek-error-spec : {M : Type 1} → statement M

@@ -8,8 +8,8 @@ use Rattle.compound.proofs.errors.write_error.Tie as tie
 returns : tie.Need-returns
 returns c =
     let e = c .before .before .before in
-    let a = e .before .before .before .args in
-    λ st same. write-first (geometryOf (a .g)) (a .p) st same (partOf (a .s .now) (a .a .stateid)) (a .a .offset) (a .a .stable) (partOf (a .s .now) (a .a .data))
+    let a = e .before .before .args in
+    λ st. write-first (geometryOf (a .g)) (a .p) st (partOf (a .s .now) (a .a .stateid)) (a .a .offset) (a .a .stable) (partOf (a .s .now) (a .a .data))
     (c .before .before .part .ensures .bytes-are) (e .editing-error .ensures) (c .before .region-error .ensures) (c .or-else .ensures)
 
 pub write-error-spec : {M : Type 1} → statement M

@@ -27,14 +27,14 @@ does-of-requires : tie.Need-does-of-requires
 does-of-requires c κs =
     let t = c .before in
     let s = t .before .before .before .before .before .before .before .before .before .before .before in
-    record { named = named (s .args .p) (s .pre .known); no-error = λ st same. sym (t .if1 .left) ∙ t .before .error .ensures st same }
+    record { geometry = geometryOf (s .args .c .geometry); named = named (s .args .p) (s .pre .known); no-error = λ st same. sym (t .if1 .left) ∙ t .before .error .ensures st same }
 
 apply-requires : tie.Need-apply-requires
 apply-requires c κs =
     let m = c .before .before .before .before .before .before in
     let d = m .before .before in
     let s = d .before .before .before .before .before .before .before .before .before .before .before .before .before in
-    edit-applies (s .args .s .now) (d .does-of .result) (m .e .given .1) (c .part .ensures .bytes-are) (d .does-of .ensures .applies _ (s .args .counts .now) refl (edit-known (s .args .p) (s .pre)))
+    edit-applies (s .args .s .now) (d .does-of .result) (m .e .given .1) (c .part .ensures .bytes-are) (d .does-of .ensures .applies _ _ (s .args .counts .now) refl (λ st same. sym (d .before .before .if1 .left) ∙ d .before .before .before .error .ensures st same) (edit-known (s .args .p) (s .pre)))
 
 edited-requires : tie.Need-edited-requires
 edited-requires c κs =
@@ -42,7 +42,7 @@ edited-requires c κs =
     let m = k .before .before .before .before .before .before in
     let d = m .before .before in
     let s = d .before .before .before .before .before .before .before .before .before .before .before .before .before in
-    let known = edit-applies (s .args .s .now) (d .does-of .result) (m .e .given .1) (k .part .ensures .bytes-are) (d .does-of .ensures .applies _ (s .args .counts .now) refl (edit-known (s .args .p) (s .pre))) in
+    let known = edit-applies (s .args .s .now) (d .does-of .result) (m .e .given .1) (k .part .ensures .bytes-are) (d .does-of .ensures .applies _ _ (s .args .counts .now) refl (λ st same. sym (d .before .before .if1 .left) ∙ d .before .before .before .error .ensures st same) (edit-known (s .args .p) (s .pre))) in
     (region-small known, omega (arith, s .pre .room))
 
 returns-2 : tie.Need-returns-2
@@ -57,7 +57,7 @@ returns-2 c =
     let st : Store = record { sizes = a .sizes .now; words = a .words .now; mem = a .mem .now } in
     λ next. answers-sets (configOf (a .c)) (a .p) st (meaning (a .s .now) (a .o)) next (k .number .ensures (a .s .now))
     (sym (t .before .error .ensures st refl) ∙ t .if1 .left) (s .pre .known) (s .pre .counted) (w .without-body2 .ensures) refl
-    (ap (doesOf (geometryOf (a .c .geometry)) (a .s .now) (a .p) st) (sym (m .current .given .1)) ∙ d .does-of .ensures .is st refl)
+    (ap (doesOf (geometryOf (a .c .geometry)) (a .s .now) (a .p) st) (sym (m .current .given .1)) ∙ d .does-of .ensures .is _ st refl)
 
 returns-3 : tie.Need-returns-3
 returns-3 c =
@@ -71,7 +71,7 @@ returns-3 c =
     let st : Store = record { sizes = a .sizes .now; words = a .words .now; mem = a .mem .now } in
     λ next. answers-shows (configOf (a .c)) (a .p) st (meaning (a .s .now) (a .o)) next (k .number .ensures (a .s .now))
     (sym (t .before .error .ensures st refl) ∙ t .if1 .left) (s .pre .known) (s .pre .counted) (w .show .ensures)
-    (ap (doesOf (geometryOf (a .c .geometry)) (a .s .now) (a .p) st) (sym (m .v .given .1)) ∙ d .does-of .ensures .is st refl)
+    (ap (doesOf (geometryOf (a .c .geometry)) (a .s .now) (a .p) st) (sym (m .v .given .1)) ∙ d .does-of .ensures .is _ st refl)
 
 returns-4 : tie.Need-returns-4
 returns-4 c =
@@ -86,7 +86,7 @@ returns-4 c =
     let st : Store = record { sizes = a .sizes .now; words = a .words .now; mem = a .mem .now } in
     λ next. answers-edits (configOf (a .c)) (a .p) st (meaning (a .s .now) (a .o)) next (k .number .ensures (a .s .now))
     (sym (t .before .error .ensures st refl) ∙ t .if1 .left)
-    (ap (doesOf (geometryOf (a .c .geometry)) (a .s .now) (a .p) st) (sym (m .e .given .1)) ∙ d .does-of .ensures .is st refl)
+    (ap (doesOf (geometryOf (a .c .geometry)) (a .s .now) (a .p) st) (sym (m .e .given .1)) ∙ d .does-of .ensures .is _ st refl)
     (rw (x .before .part .ensures .bytes-are) at (x .apply .ensures)) (w .edited .ensures)
 
 pub operation-spec : {M : Type 1} → statement M

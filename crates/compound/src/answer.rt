@@ -27,6 +27,8 @@ pub struct Answer {
 }
 
 impl Answer {
+    pub const OK: u32 = 0;
+
     pub const NXIO: u32 = 6;
 
     pub const INVAL: u32 = 22;

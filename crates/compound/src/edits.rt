@@ -61,10 +61,10 @@ pub fn edited(
     }
     let current = p.current;
     let saved = p.saved;
-    let body = put_result(reply, p.at, number, 0);
+    let body = put_result(reply, p.at, number, Answer::OK);
     let at = put_edit(e, verifier, reply, body);
     Answer {
-        status: 0,
+        status: Answer::OK,
         after: Position { current, saved, at },
     }
 }

@@ -35,11 +35,11 @@ use wire::RegionArgs;
 use wire::WriteArgs;
 use xdr::Span;
 
-// The first of two errors; 0 is none.
+// The first of two errors; OK is none.
 fn or_else(e: u32, next: u32) -> u32
     ensures { λ r. ⌜ r ≡ orElse e next ⌝ }
 {
-    if e != 0 {
+    if e != Answer::OK {
         return e;
     }
     next
@@ -62,7 +62,7 @@ fn handle_error(h: Handle) -> u32
 {
     match h {
         Handle::Nothing => Answer::NOFILEHANDLE,
-        Handle::File(_) => 0,
+        Handle::File(_) => Answer::OK,
     }
 }
 
@@ -96,7 +96,7 @@ fn region_error(g: Geometry, off: u64, n: u64) -> u32
     requires { ⌜ goodGeometry (geometryOf g) ≡ true ⌝ }
     ensures { λ r. ⌜ r ≡ first (region (geometryOf g) off n) ⌝ }
 {
-    let e = or_if(0, too_far(off, n), Answer::INVAL);
+    let e = or_if(Answer::OK, too_far(off, n), Answer::INVAL);
     or_if(e, too_big(g, off, n), Answer::FBIG)
 }
 
@@ -108,7 +108,7 @@ fn put_fh_error(g: Geometry, s: &[u8], d: Span) -> u32
     if xdr::part(s, d).len() != 4 {
         return Answer::BADHANDLE;
     }
-    or_if(0, g.files <= handle_file(s, d), Answer::STALE)
+    or_if(Answer::OK, g.files <= handle_file(s, d), Answer::STALE)
 }
 
 fn seek_error(sizes: &[u64], s: &[u8], a: ReadArgs, p: Position) -> u32

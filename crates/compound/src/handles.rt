@@ -11,7 +11,7 @@ use xdr::Word;
 pub fn handle_file(s: &[u8], d: Span) -> usize
     ensures { λ r. ⌜ (length (partOf (now (s .entry)) d) ≡ 4 → r ≡ value (partOf (now (s .entry)) d)) ⌝ }
 {
-    let Word::Value(f, _) = Cursor::new().word(xdr::part(s, d)) else {
+    let Word::Value(f, _) = Cursor::new(0).word(xdr::part(s, d)) else {
         return 0;
     };
     f as usize

@@ -191,10 +191,10 @@ pub fn show(
 {
     let current = p.current;
     let saved = p.saved;
-    let body = put_result(reply, p.at, number, 0);
+    let body = put_result(reply, p.at, number, Answer::OK);
     let at = put_view(g, sizes, words, mem, file_of(current), v, reply, body);
     Answer {
-        status: 0,
+        status: Answer::OK,
         after: Position { current, saved, at },
     }
 }

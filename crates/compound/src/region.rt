@@ -6,12 +6,13 @@ ghost use lib.Dec.{leb, ltb};
 ghost use Rattle.rules.specs.Store.{goodGeometry};
 ghost use Rattle.tables.specs.Lent.{geometryOf};
 use tables::Geometry;
+use wire::Operation;
 
 // Whether the sum of offset and length is above the highest 64-bit number.
 pub fn too_far(off: u64, n: u64) -> bool
     ensures { λ r. ⌜ r ≡ leb (2 ^ 64) (off + n) ⌝ }
 {
-    18446744073709551615 - n < off
+    Operation::MAX_LONG - n < off
 }
 
 // Whether a region that has a byte ends past the file's slots.

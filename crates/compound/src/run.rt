@@ -47,7 +47,7 @@ impl Progress {
         ensures { λ r. ⌜ r ≡ started read out ⌝ }
     {
         Progress {
-            status: 0,
+            status: Answer::OK,
             count: 0,
             read,
             at: Position {
@@ -98,13 +98,13 @@ fn operation(
     let g = c.geometry;
     let k = number(o);
     let e = error(g, sizes, s, o, p);
-    if e != 0 {
+    if e != Answer::OK {
         return without_body(k, e, p, reply);
     }
     match does_of(sizes, s, o, p) {
         Does::Sets(current, saved) => {
             let at = p.at;
-            without_body(k, 0, Position { current, saved, at }, reply)
+            without_body(k, Answer::OK, Position { current, saved, at }, reply)
         }
         Does::Shows(v) => show(g, sizes, words, mem, k, v, p, reply),
         Does::Edits(e, d) => {
@@ -174,7 +174,7 @@ fn turn(
     ensures { λ r′. ⌜ Turned (eventAt (configOf c) (stateOf (r .at) (before sizes words mem)) (now (s .entry)) (r .read))
         r r′ (after sizes words mem) (now (counts .exit)) (now (reply .entry)) (now (reply .exit)) ⌝ }
 {
-    match item(s, Cursor { at: r.read }) {
+    match item(s, Cursor::new(r.read)) {
         Item::Op(o, next) => {
             let at = r.at;
             let read = next.at;
@@ -209,7 +209,7 @@ pub fn run(
     let mut r = start;
     while r.count < ops {
         r = turn(c, sizes, words, mem, counts, s, r, reply);
-        if r.status != 0 {
+        if r.status != Answer::OK {
             return r;
         }
     }

@@ -20,6 +20,7 @@ use crate::answer::Answer;
 use crate::run::Config;
 use crate::run::Progress;
 use crate::run::run;
+use tables::Counts;
 use tables::Geometry;
 use wire::Header;
 use wire::HeaderRead;
@@ -36,6 +37,13 @@ pub struct Served {
 }
 
 impl Served {
+    // Refusal numbers; the others are of the tables.
+    pub const LONG_REQUEST: u32 = 4;
+
+    pub const SHORT_REPLY: u32 = 5;
+
+    pub const BAD_HEADER: u32 = 6;
+
     pub const MINOR: u32 = 2;
 
     pub const VERIFIER: usize = 8;
@@ -65,7 +73,7 @@ fn header_status(minor: u32, ops: u32) -> u32
     if Operation::MAX_OPS < ops {
         return Answer::TOO_MANY_OPS;
     }
-    0
+    Answer::OK
 }
 
 // The head of the reply: status, tag, number of results.
@@ -99,7 +107,7 @@ fn serve_operations(
     let d = h.tag;
     let tag = xdr::part(s, d);
     let e = header_status(h.minor, h.ops);
-    if e != 0 {
+    if e != Answer::OK {
         let written = put_head(reply, e, tag, 0);
         return Served {
             number: 0,
@@ -133,16 +141,16 @@ fn serve_counted(
         (outcome r reply (after sizes words mem)) ⌝ }
 {
     if tables::survey_tables(c.geometry, sizes, words, mem, counts).number != 0 {
-        return Served::refused(3);
+        return Served::refused(Counts::UNSOUND);
     }
     if Served::MAX_REQUEST < s.len() {
-        return Served::refused(4);
+        return Served::refused(Served::LONG_REQUEST);
     }
     if reply.len() < Served::MIN_REPLY {
-        return Served::refused(5);
+        return Served::refused(Served::SHORT_REPLY);
     }
     let HeaderRead::Found(h) = header(s) else {
-        return Served::refused(6);
+        return Served::refused(Served::BAD_HEADER);
     };
     serve_operations(c, sizes, words, mem, counts, s, h, reply)
 }
@@ -241,7 +249,7 @@ fn verifier(v: &[u8]) -> u64
     requires { ⌜ length (now v) ≡ 8 ⌝ }
     ensures { λ r. ⌜ u64 r ≡ now (v .entry) ⌝ }
 {
-    let Long::Value(n, _) = Cursor::new().long(v) else {
+    let Long::Value(n, _) = Cursor::new(0).long(v) else {
         return 0;
     };
     n
@@ -261,13 +269,13 @@ pub fn serve(
         (outcome r reply (after sizes words mem)) ⌝ }
 {
     if !g.good() {
-        return Served::refused(1);
+        return Served::refused(Counts::GEOMETRY);
     }
     if !tables::good_lengths(g, sizes, words, mem) {
-        return Served::refused(2);
+        return Served::refused(Counts::LENGTH);
     }
     if v.len() != Served::VERIFIER {
-        return Served::refused(2);
+        return Served::refused(Counts::LENGTH);
     }
     let c = Config {
         geometry: g,

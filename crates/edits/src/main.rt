@@ -6,6 +6,7 @@
 // A test before a call stands for a proof of what the call requires.
 ghost use Prim.Native.Nat.{_≤_};
 ghost use lib.ListN.{length};
+use compound::Served;
 use frame::Request;
 use libc::STDIN_FILENO;
 use libc::STDOUT_FILENO;
@@ -85,15 +86,15 @@ fn serve_line(
     let Request::Bytes(n) = frame::request_bytes(line, request) else {
         return put_number(7, text);
     };
-    let verifier = [0u8; 8];
+    let verifier = [0u8; Served::VERIFIER];
     let s = xdr::part(request, xdr::Span { start: 0, len: n });
     let r = compound::serve(g, sizes, words, mem, &verifier, s, reply);
     put_reply(r, reply, text)
 }
 
 fn serve(g: Geometry, sizes: &mut [u64], words: &mut [u32], mem: &mut [u8], line: &[u8]) {
-    let mut request = [0u8; 4096];
-    let mut reply = [0u8; 32768];
+    let mut request = [0u8; Request::MAX_BYTES];
+    let mut reply = [0u8; Served::MIN_REPLY];
     let mut text = [0u8; 65536];
     let n = serve_line(
         g,
@@ -205,7 +206,7 @@ fn geometry_asked(line: &[u8], numbers: &mut [u8]) -> Geometry
     let Request::Bytes(_) = frame::request_bytes(&line[1..], numbers) else {
         return geometry_in(0, 0);
     };
-    let Word::Value(first, c) = Cursor::new().word(numbers) else {
+    let Word::Value(first, c) = Cursor::new(0).word(numbers) else {
         return geometry_in(0, 0);
     };
     let Word::Value(second, _) = c.word(numbers) else {
@@ -335,7 +336,7 @@ fn take_all(line: &mut [u8], sizes: &mut [u64], words: &mut [u32], mem: &mut [u8
 
 // The tables hold F 4, S 16, N 32, B 4,096; the line one digit more than a compound may have.
 fn main() {
-    let mut line = [0u8; 8193];
+    let mut line = [0u8; Request::KEPT];
     let mut sizes = [0u64; 4];
     let mut words = [0u32; 64];
     let mut mem = [0u8; 131072];

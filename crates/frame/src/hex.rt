@@ -22,6 +22,18 @@ pub enum Request {
     Refused,
 }
 
+impl Request {
+    // The digits of a line at most, and the refusal number of one that has more or is none.
+    pub const MAX_DIGITS: usize = 8192;
+
+    pub const REFUSED: u32 = 7;
+
+    // The bytes of such a line at most; and the digits that a program keeps of a line, one more than are read.
+    pub const MAX_BYTES: usize = 4096;
+
+    pub const KEPT: usize = 8193;
+}
+
 pub fn digit_value(c: u8) -> Digit
     ensures { λ r. ⌜ ofDigit r ≡ digitValue c ⌝ }
 {
@@ -50,7 +62,7 @@ pub fn request_bytes(line: &[u8], out: &mut [u8]) -> Request
     requires { ⌜ 4096 ≤ length (now out) ⌝ }
     ensures { λ r. ⌜ RequestRead (now (line .entry)) (now (out .entry)) (now (out .exit)) r ⌝ }
 {
-    if 8192 < line.len() {
+    if Request::MAX_DIGITS < line.len() {
         return Request::Refused;
     }
     if line.len() % 2 != 0 {

@@ -42,7 +42,7 @@ fn serve_frame(
         (before sizes words mem)
         (outcome r reply (after sizes words mem)) ⌝ }
 {
-    let verifier = [0u8; 8];
+    let verifier = [0u8; Served::VERIFIER];
     compound::serve(frame_geometry(), sizes, words, mem, &verifier, s, reply)
 }
 
@@ -83,7 +83,7 @@ fn serve_request(
         (now (out .entry)) r (now (out .exit))
         (after sizes words mem) ⌝ }
 {
-    let mut reply = [0u8; 32768];
+    let mut reply = [0u8; Served::MIN_REPLY];
     serve_into(sizes, words, mem, s, &mut reply, out)
 }
 
@@ -103,7 +103,7 @@ fn serve_digits(
         (after sizes words mem) ⌝ }
 {
     let Request::Bytes(n) = request_bytes(line, request) else {
-        return put_refusal(7, out);
+        return put_refusal(Request::REFUSED, out);
     };
     serve_request(sizes, words, mem, &request[..n], out)
 }
@@ -122,7 +122,7 @@ fn serve_fitting(
         (now (out .entry)) r (now (out .exit))
         (after sizes words mem) ⌝ }
 {
-    let mut request = [0u8; 4096];
+    let mut request = [0u8; Request::MAX_BYTES];
     serve_digits(sizes, words, mem, line, &mut request, out)
 }
 

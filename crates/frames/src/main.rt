@@ -3,6 +3,7 @@
 ghost use mathlib.Core.Path.{_≡_};
 ghost use Prim.Native.Nat.{_≤_};
 ghost use lib.ListN.{length};
+use frame::Request;
 use libc::STDIN_FILENO;
 use libc::STDOUT_FILENO;
 
@@ -262,7 +263,7 @@ fn main() {
     let mut sizes = [0u64; 4];
     let mut words = [0u32; 64];
     let mut mem = [0u8; 16384];
-    let mut line = [0u8; 8193];
+    let mut line = [0u8; Request::KEPT];
     let mut out = [0u8; 131072];
     let mut input = [0u8; 65536];
     serve_all(

@@ -24,7 +24,7 @@ fn copy_block(mem: &mut [u8], from: usize, to: usize, size: usize)
     requires { ⌜ (size ≤ 4096) × ((from + size ≤ length (now mem)) × (to + size ≤ length (now mem))) ⌝ }
     ensures { λ _. ⌜ now (mem .exit) ≡ splice (now (mem .entry)) to (take size (drop from (now (mem .entry)))) ⌝ }
 {
-    let mut page = [0u8; 4096];
+    let mut page = [0u8; Geometry::MAX_BLOCK];
     copy_through(mem, from, to, &mut page[..size]);
 }
 

@@ -106,6 +106,6 @@ pub fn put_bytes(
     ensures { λ _. ⌜ ((st : Store) → Fills (geometryOf g) st e (now (d .entry)) size (now (old .entry)) (now (words .entry)) (now (mem .entry))
         → now (mem .exit) ≡ editBytes (geometryOf g) st (editFrom e (now (d .entry)))) ⌝ }
 {
-    let mut page = [0u8; 4096];
+    let mut page = [0u8; Geometry::MAX_BLOCK];
     put_slots(g, words, mem, e, size, old, d, &mut page);
 }

@@ -19,6 +19,9 @@ impl Geometry {
 
     pub const MAX_BLOCKS: usize = 65536;
 
+    // The largest block.
+    pub const MAX_BLOCK: usize = 4096;
+
     // Pools of at most so many blocks have smaller local tables.
     pub const SMALL_POOL: usize = 256;
 

@@ -20,6 +20,15 @@ pub struct Counts {
     pub owed: usize,
 }
 
+impl Counts {
+    // Refusal numbers: the geometry, a length, a store that is not sound.
+    pub const GEOMETRY: u32 = 1;
+
+    pub const LENGTH: u32 = 2;
+
+    pub const UNSOUND: u32 = 3;
+}
+
 // The judgement of tables that have their lengths. `counts` has a zero for each block; where the store is sound it is the
 // table of holders afterwards.
 pub fn survey_tables(
@@ -35,14 +44,14 @@ pub fn survey_tables(
 {
     if !words_formed(words, g.blocks) {
         return Counts {
-            number: 3,
+            number: Counts::UNSOUND,
             used: 0,
             owed: 0,
         };
     }
     if !files_sound(g, sizes, words, mem) {
         return Counts {
-            number: 3,
+            number: Counts::UNSOUND,
             used: 0,
             owed: 0,
         };
@@ -52,7 +61,7 @@ pub fn survey_tables(
     let owed = owed_slots(words, counts);
     if g.blocks < used + owed {
         return Counts {
-            number: 3,
+            number: Counts::UNSOUND,
             used: 0,
             owed: 0,
         };
@@ -123,14 +132,14 @@ pub fn count_blocks(g: Geometry, sizes: &[u64], words: &[u32], mem: &[u8]) -> Co
 {
     if !g.good() {
         return Counts {
-            number: 1,
+            number: Counts::GEOMETRY,
             used: 0,
             owed: 0,
         };
     }
     if !good_lengths(g, sizes, words, mem) {
         return Counts {
-            number: 2,
+            number: Counts::LENGTH,
             used: 0,
             owed: 0,
         };

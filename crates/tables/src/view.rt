@@ -6,6 +6,7 @@ ghost use Rattle.tables.specs.View.{PlacePromise, ViewPromise};
 use crate::files::zero_bytes;
 use crate::geometry::Geometry;
 use crate::geometry::good_lengths;
+use crate::survey::Counts;
 use crate::survey::soundness;
 
 // The refusal, and whether the slot is a hole.
@@ -21,6 +22,11 @@ pub struct Place {
     pub start: usize,
 }
 
+impl Place {
+    // The refusal number of a file or slot that isn't there.
+    pub const NO_SLOT: u32 = 8;
+}
+
 fn slot_refusal(
     g: Geometry,
     sizes: &[u64],
@@ -33,26 +39,26 @@ fn slot_refusal(
     ensures { λ r. ⌜ r ≡ slotRefusal (geometryOf g) (before sizes words mem) (now (page .entry)) f k ⌝ }
 {
     let number = soundness(g, sizes, words, mem);
-    if number == 1 {
-        return 1;
+    if number == Counts::GEOMETRY {
+        return Counts::GEOMETRY;
     }
-    if number == 2 {
-        return 2;
+    if number == Counts::LENGTH {
+        return Counts::LENGTH;
     }
     if page.len() != g.block_size {
-        return 2;
+        return Counts::LENGTH;
     }
     if number != 0 {
-        return 3;
+        return Counts::UNSOUND;
     }
     if !zero_bytes(page) {
-        return 3;
+        return Counts::UNSOUND;
     }
     if g.files <= f {
-        return 8;
+        return Place::NO_SLOT;
     }
     if g.slots <= k {
-        return 8;
+        return Place::NO_SLOT;
     }
     0
 }

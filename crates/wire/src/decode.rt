@@ -352,7 +352,7 @@ pub fn item(s: &[u8], c: Cursor) -> Item
 pub fn header(s: &[u8]) -> HeaderRead
     ensures { λ r. ⌜ ofHeader (now (s .entry)) r ≡ header (now (s .entry)) 0 ⌝ }
 {
-    let t = Cursor::new().opaque(s, Operation::MAX_TAG);
+    let t = Cursor::new(0).opaque(s, Operation::MAX_TAG);
     let Bytes::Found(tag, c) = t else {
         return HeaderRead::Fault(t.place());
     };

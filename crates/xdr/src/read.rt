@@ -73,11 +73,11 @@ impl Cursor {
     // The highest number of a boolean.
     pub const MAX_BOOL: u32 = 1;
 
-    // The start of a request.
-    pub fn new() -> Self
-        ensures { λ r. ⌜ r .at ≡ 0 ⌝ }
+    // A cursor at a place of a slice.
+    pub fn new(at: usize) -> Self
+        ensures { λ r. ⌜ r .at ≡ at ⌝ }
     {
-        Cursor { at: 0 }
+        Cursor { at }
     }
 
     // A number of four bytes.

@@ -80,7 +80,7 @@ fn put_file(out: &mut [u8])
 
 // The file read back: name, kind, interpreter, owner, data; each fault ends the reading.
 fn show_file(s: &[u8]) {
-    let name = Cursor::new().opaque(s, 255);
+    let name = Cursor::new(0).opaque(s, 255);
     say_bytes(s, name);
     let Bytes::Found(_, c) = name else {
         return;
@@ -112,7 +112,7 @@ fn front(s: &[u8], n: usize) -> &[u8] {
 fn show_cuts(s: &[u8]) {
     for n in 0..17 {
         let t = front(s, n);
-        say_bytes(t, Cursor::new().opaque(t, 255));
+        say_bytes(t, Cursor::new(0).opaque(t, 255));
     }
 }
 
@@ -127,9 +127,9 @@ fn show_length(text: &[u8], n: u32) {
     say_hex(front(&out, end + 1));
     say(b"\n");
     let s: &[u8] = &out;
-    say_bytes(s, Cursor { at: 2 }.opaque(s, n));
+    say_bytes(s, Cursor::new(2).opaque(s, n));
     if 0 < n {
-        say_bytes(s, Cursor { at: 2 }.opaque(s, n - 1));
+        say_bytes(s, Cursor::new(2).opaque(s, n - 1));
     }
 }
 
@@ -148,20 +148,20 @@ fn show_numbers() {
     say_hex(&out);
     say(b"\n");
     let s: &[u8] = &out;
-    say_word(Cursor { at: 0 }.word(s));
-    say_long(Cursor { at: 4 }.long(s));
-    say_word(Cursor { at: 12 }.up_to(s, Cursor::MAX_BOOL));
-    say_word(Cursor { at: 16 }.up_to(s, Cursor::MAX_BOOL));
-    say_word(Cursor { at: 0 }.up_to(s, Cursor::MAX_BOOL));
-    say_word(Cursor { at: 20 }.word(s));
-    say_word(Cursor { at: 21 }.word(s));
-    say_long(Cursor { at: 17 }.long(s));
-    say_long(Cursor { at: 24 }.long(s));
-    say_word(Cursor { at: 25 }.word(s));
-    say_bytes(s, Cursor { at: 4 }.fixed(s, 0));
-    say_bytes(s, Cursor { at: 8 }.fixed(s, 16));
-    say_bytes(s, Cursor { at: 8 }.fixed(s, 17));
-    say_bytes(s, Cursor { at: 30 }.fixed(s, 0));
+    say_word(Cursor::new(0).word(s));
+    say_long(Cursor::new(4).long(s));
+    say_word(Cursor::new(12).up_to(s, Cursor::MAX_BOOL));
+    say_word(Cursor::new(16).up_to(s, Cursor::MAX_BOOL));
+    say_word(Cursor::new(0).up_to(s, Cursor::MAX_BOOL));
+    say_word(Cursor::new(20).word(s));
+    say_word(Cursor::new(21).word(s));
+    say_long(Cursor::new(17).long(s));
+    say_long(Cursor::new(24).long(s));
+    say_word(Cursor::new(25).word(s));
+    say_bytes(s, Cursor::new(4).fixed(s, 0));
+    say_bytes(s, Cursor::new(8).fixed(s, 16));
+    say_bytes(s, Cursor::new(8).fixed(s, 17));
+    say_bytes(s, Cursor::new(30).fixed(s, 0));
 }
 
 // Damaged pads, and a pad that is cut behind a damaged byte.
@@ -170,10 +170,10 @@ fn show_pads() {
     let last = b"\x00\x00\x00\x01a\x00\x00\x01";
     let cut = b"\x00\x00\x00\x01a\x00\x01";
     let missing = b"\x00\x00\x00\x01a\x00\x00";
-    say_bytes(first, Cursor::new().opaque(first, 1));
-    say_bytes(last, Cursor::new().opaque(last, 1));
-    say_bytes(cut, Cursor::new().opaque(cut, 1));
-    say_bytes(missing, Cursor::new().opaque(missing, 1));
+    say_bytes(first, Cursor::new(0).opaque(first, 1));
+    say_bytes(last, Cursor::new(0).opaque(last, 1));
+    say_bytes(cut, Cursor::new(0).opaque(cut, 1));
+    say_bytes(missing, Cursor::new(0).opaque(missing, 1));
 }
 
 fn main() {

@@ -5,6 +5,8 @@ use compare::{Random, Second, Server};
 use second::{Geometry, Store, REPLY_MIN};
 
 pub const SMALLEST: Geometry = geometry(1, 1, 1, 512);
+/// The frames program's.
+pub const FRAMES: Geometry = geometry(4, 16, 32, 512);
 /// The smallest for a CLONE of 64 slots.
 pub const SMALL: Geometry = geometry(4, 128, 256, 512);
 pub const LARGE: Geometry = geometry(64, 1024, 65_536, 512);

@@ -22,11 +22,12 @@ pub fn tables() {
     println!("| Case | Geometry | Proved | Plain | Ratio |");
     println!("|---|---|---|---|---|");
     for kind in Kind::ALL {
-        let least = match kind {
-            Kind::Clone => case::SMALL,
-            _ => case::SMALLEST,
+        let small: &[Geometry] = match kind {
+            Kind::Clone => &[case::SMALL],
+            _ => &[case::SMALLEST, case::FRAMES],
         };
-        for (geometry, calls) in [(least, MANY), (case::LARGE, FEW), (case::LARGEST, FEW)] {
+        let small = small.iter().map(|geometry| (*geometry, MANY));
+        for (geometry, calls) in small.chain([(case::LARGE, FEW), (case::LARGEST, FEW)]) {
             let columns = columns(&Case::new(kind, geometry, calls));
             println!("| {} | {} | {columns} |", kind.name(), four(&geometry));
         }

@@ -1,6 +1,5 @@
 pub mod RunLaws
 pub mod ErrorLaws
-pub mod NumberLaws
 pub mod LeafLaws
 pub mod SpliceLaws
 pub mod PieceLaws

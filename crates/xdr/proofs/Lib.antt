@@ -5,3 +5,4 @@ pub mod RoundTrip
 pub mod Onward
 pub mod LayoutLaws
 pub mod Bounds
+pub mod NumberLaws

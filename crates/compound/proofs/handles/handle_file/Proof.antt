@@ -1,6 +1,6 @@
 use mathlib.Core.Path.{sym, ap, _∙_}
 use Rattle.xdr.specs.Answers.{ofWord}
-use Rattle.compound.proofs.NumberLaws.{no-fault, spelled}
+use Rattle.xdr.proofs.NumberLaws.{no-fault, spelled}
 use borrow.Author.Needs.{needs}
 use Rattle.compound.proofs.handles.handle_file.Statement.{statement}
 use Rattle.compound.proofs.handles.handle_file.Tie as tie

@@ -1,7 +1,7 @@
 use native.Mathlib.Omega.{arith}
 use mathlib.Core.Path.{sym, ap, _∙_}
 use Rattle.xdr.specs.Answers.{ofLong}
-use Rattle.compound.proofs.NumberLaws.{no-fault, spelled, u64-value}
+use Rattle.xdr.proofs.NumberLaws.{no-fault, spelled, u64-value}
 use borrow.Author.Needs.{needs}
 use Rattle.compound.proofs.serving.verifier.Statement.{statement}
 use Rattle.compound.proofs.serving.verifier.Tie as tie

@@ -3,13 +3,13 @@ use Prim.Native.Nat.{ℕ, zero, suc, _+_, _*_, _/_, _%_, _^_, _≤_, _<_}
 use mathlib.Core.Path.{_≡_, refl, sym, ap, _∙_}
 use mathlib.Core.Bool.{Bool, true, false, true≢false}
 use mathlib.Core.List.{List, [], _∷_}
-use native.Mathlib.Nat.{mul-assoc, pow-succ', one-le-pow, mod-eq-of-lt, div-eq-of-lt, mul-add-div-right, mul-le-mul-right}
+use native.Mathlib.Nat.{mul-assoc, pow-succ', one-le-pow, div-eq-of-lt, mul-add-div-right, mul-le-mul-right}
 use native.Mathlib.Omega.{arith}
 use lib.ListN.{length, getD}
 use lib.Seq.{take-all}
 use Rattle.xdr.specs.Encode.{be, u64}
 use Rattle.xdr.specs.Decode.{Parsed, got, fault, value, number}
 use Rattle.xdr.proofs.DecodeLaws.{number-there}
 
 got-inj : {a b m n : ℕ} → got a m ≡ got b n → a ≡ b
 got-inj e = cc

@@ -26,7 +26,8 @@ struct lent {
 
 static struct tables store;
 static uint8_t verifier[SERVER_VERIFIER], request[SERVER_MAX_REQUEST + 1], reply[SERVER_MIN_REPLY];
-static uint64_t counts[2];
+static uint8_t page[BLOCK_SIZE + 1];
+static uint64_t counts[2], shown[3];
 static int differences;
 
 static void expect(int same, const char *what)
@@ -40,6 +41,11 @@ static void expect(int same, const char *what)
 static int counts_are(uint64_t first, uint64_t second)
 {
     return counts[0] == first && counts[1] == second;
+}
+
+static int shown_is(uint64_t which, uint64_t start, uint64_t length)
+{
+    return shown[0] == which && shown[1] == start && shown[2] == length;
 }
 
 static uint32_t make_empty(uint64_t files, size_t mem_len)
@@ -57,6 +63,13 @@ static uint32_t count_blocks(uint64_t files, size_t mem_len)
     memset(counts, UNTOUCHED, sizeof counts);
     return store_count_blocks(files, SLOTS, BLOCKS, BLOCK_SIZE, store.sizes, FILES, store.words, FILES * SLOTS, store.mem, mem_len,
         counts);
+}
+
+static uint32_t slot_view(uint64_t files, size_t mem_len, size_t page_len, uint64_t file, uint64_t slot)
+{
+    memset(shown, UNTOUCHED, sizeof shown);
+    return store_slot_view(files, SLOTS, BLOCKS, BLOCK_SIZE, store.sizes, FILES, store.words, FILES * SLOTS, store.mem, mem_len,
+        page, page_len, file, slot, shown);
 }
 
 static uint32_t serve(struct lent a)
@@ -120,6 +133,45 @@ static void served(void)
         "00000000000000000000000000000010", "frame 2");
 }
 
+/* On the store after frame 2, with one byte written to slot 2 of file 3. */
+static void showed(void)
+{
+    size_t length = sizeof store.mem;
+    expect(slot_view(FILES, length, BLOCK_SIZE, 1, 0) == 0 && shown_is(1, 0, BLOCK_SIZE), "a reserved hole shown");
+    expect(slot_view(FILES, length, BLOCK_SIZE, 3, 15) == 0 && shown_is(1, 0, BLOCK_SIZE), "a slot past the size shown");
+    frame("000000000000000200000002000000160000000400000003"
+          "00000026000000000000000000000000000000000000000000000401000000020000000177000000",
+        "0000000000000000000000020000001600000000000000260000000000000001000000020000000000000000", "a byte written");
+    expect(slot_view(FILES, length, BLOCK_SIZE, 3, 1) == 0 && shown_is(1, 0, BLOCK_SIZE), "a hole shown");
+    expect(slot_view(FILES, length, BLOCK_SIZE, 3, 2) == 0 && shown_is(0, 0, BLOCK_SIZE), "a block shown");
+    expect(store.mem[shown[1]] == 0 && store.mem[shown[1] + 1] == 0x77, "a block's bytes");
+    store.words[3 * SLOTS + 2] = 2 * 5;
+    expect(slot_view(FILES, length, BLOCK_SIZE, 3, 2) == 0 && shown_is(0, 4 * BLOCK_SIZE, BLOCK_SIZE), "block 4 shown");
+    store.words[3 * SLOTS + 2] = 2;
+}
+
+/* A refused view of a slot shows the page's empty start. */
+static void hides(uint32_t number, uint32_t answer, const char *what)
+{
+    expect(answer == number && shown_is(1, 0, 0), what);
+}
+
+static void hidden(void)
+{
+    size_t length = sizeof store.mem;
+    hides(1, slot_view(FILES + 64, length, BLOCK_SIZE, 3, 2), "view refused: 1");
+    hides(2, slot_view(FILES, length - 1, BLOCK_SIZE, 3, 2), "view refused: 2, block memory");
+    hides(2, slot_view(FILES, length, BLOCK_SIZE - 1, 3, 2), "view refused: 2, page short");
+    hides(2, slot_view(FILES, length, BLOCK_SIZE + 1, 3, 2), "view refused: 2, page long");
+    hides(2, slot_view(FILES, length, 0, 3, 2), "view refused: 2, page empty");
+    hides(8, slot_view(FILES, length, BLOCK_SIZE, FILES, 2), "view refused: 8, file");
+    hides(8, slot_view(FILES, length, BLOCK_SIZE, 3, SLOTS), "view refused: 8, slot");
+    hides(8, slot_view(FILES, length, BLOCK_SIZE, UINT64_MAX, UINT64_MAX), "view refused: 8, largest");
+    page[BLOCK_SIZE - 1] = 1;
+    hides(3, slot_view(FILES, length, BLOCK_SIZE, FILES, 2), "view refused: 3, page");
+    page[BLOCK_SIZE - 1] = 0;
+}
+
 /* A refused call to serve answers its number and zero counts and changes nothing. */
 static void refuses(uint32_t number, struct lent a, const char *what)
 {
@@ -128,12 +180,12 @@ static void refuses(uint32_t number, struct lent a, const char *what)
     expect(untouched_from(0) && memcmp(&store, &before, sizeof store) == 0, what);
 }
 
-/* On the store after frame 2, with its request. */
+/* On the same store, with the last request. */
 static void refused(void)
 {
     struct tables before = store;
     size_t length = sizeof store.mem;
-    struct lent good = whole(56), a = good, b = good, c = good, d = good;
+    struct lent good = whole(64), a = good, b = good, c = good, d = good;
     expect(make_empty(0, length) == 1 && make_empty(FILES, length - 1) == 2, "make_empty refused");
     expect(memcmp(&store, &before, sizeof store) == 0, "make_empty refused: tables");
     expect(soundness(65, length) == 1 && soundness(FILES, length - 1) == 2, "soundness refused");
@@ -152,12 +204,15 @@ static void refused(void)
     store.words[0] = 2 * (BLOCKS + 1);
     expect(soundness(FILES, length) == 3, "soundness refused: 3");
     expect(count_blocks(FILES, length) == 3 && counts_are(0, 0), "counts refused: 3");
+    hides(3, slot_view(FILES, length, BLOCK_SIZE, 3, 2), "view refused: 3, store");
     refuses(3, good, "refusal 3");
 }
 
 static void *run(void *nothing)
 {
     served();
+    showed();
+    hidden();
     refused();
     return nothing;
 }

@@ -1,4 +1,4 @@
-/* The server core as four calls with C's calling convention, for x86-64 Linux. Link target/staticlib/libserver.a, which
+/* The server core as five calls with C's calling convention, for x86-64 Linux. Link target/staticlib/libserver.a, which
    `rt staticlib server` writes. Of the C library it takes memcpy, memmove and memset; it allocates nothing and keeps no state.
 
    The store is lent with every call:
@@ -14,13 +14,15 @@
    Lengths count elements. Every call takes any numbers, lengths and contents, and answers 0 or the first of these that applies:
 
      1  the geometry lies outside the numbers above
-     2  a table, the block memory or the verifier has another length
-     3  the store is not sound
+     2  a table, the block memory, the verifier or the zero page has another length
+     3  the store is not sound, or the zero page is not all zero
      4  the request is longer than SERVER_MAX_REQUEST
      5  the reply buffer is shorter than SERVER_MIN_REPLY
      6  the tag, the minor version or the number of operations does not decode, or the tag is longer than 1,024 bytes
+     8  there is no such file or no such slot
 
-   A refused call leaves the store and the reply as they are and sets its counts to zero.
+   A refused call leaves the store and the reply as they are and sets its counts to zero. One that shows a slot shows the zero page's
+   empty start.
 
    What the calls do ask: each pointer is aligned, valid for its length and not null, also where the length is 0, and what a call may
    write overlaps nothing else that it is lent. Threads may call at the same time on stores of their own. A call takes up to
@@ -51,6 +53,18 @@ uint32_t store_soundness(uint64_t files, uint64_t slots, uint64_t blocks, uint64
 uint32_t store_count_blocks(uint64_t files, uint64_t slots, uint64_t blocks, uint64_t block_size,
     const uint64_t *sizes, size_t sizes_len, const uint32_t *words, size_t words_len, const uint8_t *mem, size_t mem_len,
     uint64_t counts[2]);
+
+/* Shows a slot of a file, both numbered from 0, without copying it: block_size bytes of mem, or for a hole the zero page, which is
+   block_size bytes that are all zero. Sets shown to the slice that has the bytes, where they start in it and how many they are:
+
+     {0, start, block_size}  in mem, from start on
+     {1, 0, block_size}      in the page: a hole
+     {1, 0, 0}               on a refusal
+
+   Answers 0 to 3, or 8. */
+uint32_t store_slot_view(uint64_t files, uint64_t slots, uint64_t blocks, uint64_t block_size,
+    const uint64_t *sizes, size_t sizes_len, const uint32_t *words, size_t words_len, const uint8_t *mem, size_t mem_len,
+    const uint8_t *page, size_t page_len, uint64_t file, uint64_t slot, uint64_t shown[3]);
 
 /* Runs the COMPOUND of the request on the store and writes the reply. Sets counts to the bytes read of the request and written of
    the reply; the reply's other bytes stay as they are. verifier has SERVER_VERIFIER bytes and is what WRITE and COPY answer.

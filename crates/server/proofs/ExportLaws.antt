@@ -1,12 +1,14 @@
 -- From what the calls below promise to what the exported ones do, and back to the claim's step.
 use Prim.Native.Nat.{ℕ}
 use mathlib.Core.Path.{_≡_, ap, subst, _∙_}
+use mathlib.Core.Bool.{Bool}
 use mathlib.Core.List.{List, [], _∷_}
-use lib.ListN.{getD}
+use lib.ListN.{length, getD}
+use Rattle.rules.specs.Lists.{bit}
 use Rattle.rules.specs.Store.{Geometry, Store}
-use Rattle.rules.specs.Calls.{MakePromise, storeRefusal, CountPromise, Outcome, Call, Contract}
+use Rattle.rules.specs.Calls.{MakePromise, storeRefusal, CountPromise, slotView, slotStart, KindPromise, Outcome, Call, Contract}
 use Rattle.rules.specs.Run.{config}
-use Rattle.server.specs.Exports.{CountsPromise, ServePromise}
+use Rattle.server.specs.Exports.{CountsPromise, ShownPromise, ServePromise}
 
 two : (a b x y : ℕ) → a ≡ x → b ≡ y → a ∷ b ∷ [] ≡ x ∷ y ∷ []
 two a b x y e f = rw (e, f)
@@ -21,6 +23,14 @@ pub counted : (g h : Geometry) (st : Store) (n u o : ℕ) → g ≡ h → CountP
 counted g h st n u o e p =
     let q = subst (λ (k : Geometry). CountPromise k st n u o) e p in
     record { number-is = q .number-is; counts-are = two _ _ _ _ (q .used-is) (q .owed-is) }
+
+-- from the kind, the start and the view of one slot
+pub shown : (g h : Geometry) (st : Store) (page : List ℕ) (f k n : ℕ) (hole : Bool) (which start : ℕ) (view : List ℕ) → g ≡ h
+    → KindPromise g st page f k n hole → which ≡ bit hole → start ≡ slotStart g st page f k → view ≡ slotView g st page f k
+    → ShownPromise h st page f k n (which ∷ start ∷ length view ∷ [])
+shown g h st page f k n hole which start view e p w s v =
+    subst (λ (x : Geometry). ShownPromise x st page f k n (which ∷ start ∷ length view ∷ [])) e
+    (record { number-is = p .number-is; shown-is = rw (w, p .hole-is, s, v) })
 
 pub answered : (g h : Geometry) (v s buf : List ℕ) (st : Store) (o : Outcome Store) → g ≡ h
     → Contract (record { config = config g v; request = s; buffer = buf }) st o

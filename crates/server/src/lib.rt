@@ -2,9 +2,10 @@
 ghost use mathlib.Core.Path.{_≡_};
 ghost use Rattle.tables.specs.Lent.{geometryOf, after, before};
 ghost use Rattle.rules.specs.Run.{config};
+ghost use Rattle.rules.specs.Lists.{bit};
 ghost use Rattle.rules.specs.Calls.{MakePromise, storeRefusal};
 ghost use Rattle.compound.specs.Runner.{call};
-ghost use Rattle.server.specs.Exports.{CountsPromise, ServePromise};
+ghost use Rattle.server.specs.Exports.{CountsPromise, ShownPromise, ServePromise};
 use tables::Geometry;
 
 fn geometry(files: u64, slots: u64, blocks: u64, block_size: u64) -> Geometry
@@ -86,6 +87,41 @@ pub extern "C" fn store_count_blocks(
     );
     *counts = [c.used as u64, c.owed as u64];
     c.number
+}
+
+fn which(hole: bool) -> u64
+    ensures { λ r. ⌜ r ≡ bit hole ⌝ }
+{
+    if hole { 1 } else { 0 }
+}
+
+// Shows a slot: 0, or refusal 1, 2, 3 or 8. `shown` gets the slice that has the slot's part, 0 for the memory and 1 for the page,
+// where the part starts there, and its length.
+#[no_mangle]
+pub extern "C" fn store_slot_view<'a>(
+    files: u64,
+    slots: u64,
+    blocks: u64,
+    block_size: u64,
+    sizes: &[u64],
+    words: &[u32],
+    mem: &'a [u8],
+    page: &'a [u8],
+    file: u64,
+    slot: u64,
+    shown: &mut [u64; 3],
+) -> u32
+    ensures { λ r. ⌜ ShownPromise (record { F = files; S = slots; N = blocks; B = «block_size» })
+        (before sizes words mem) (now (page .entry)) file slot r (now (shown .exit)) ⌝ }
+{
+    let g = geometry(files, slots, blocks, block_size);
+    let f = file as usize;
+    let k = slot as usize;
+    let kind = tables::slot_kind(g, sizes, words, mem, page, f, k);
+    let place = tables::slot_place(g, sizes, words, mem, page, f, k);
+    let view = tables::slot_view(g, sizes, words, mem, page, f, k);
+    *shown = [which(kind.hole), place.start as u64, view.len() as u64];
+    kind.number
 }
 
 // Serves a compound: 0 with the bytes read and written, or refusal 1 to 6 and zero counts.

@@ -5,6 +5,7 @@ use std::fmt::Display;
 use second::Store;
 
 use crate::observed::{Observed, OnCopy};
+use crate::server::Shown;
 
 /// Where two servers part.
 pub struct Difference {
@@ -16,9 +17,16 @@ pub struct Difference {
 
 pub fn observations_differ(left: &Observed, right: &Observed) -> Option<String> {
     answers_differ("serve", &left.served, &right.served)
+        .or_else(|| views_differ(left.shown.as_ref()?, right.shown.as_ref()?))
         .or_else(|| answers_differ("soundness", &left.soundness, &right.soundness))
         .or_else(|| answers_differ("count_blocks", &left.counted, &right.counted))
         .or_else(|| copies_differ(left.on_copy.as_ref()?, right.on_copy.as_ref()?))
+}
+
+fn views_differ(left: &Shown, right: &Shown) -> Option<String> {
+    answers_differ("slot_view", &left.number, &right.number)
+        .or_else(|| slices_differ("part shown", &left.part, &right.part))
+        .or_else(|| slices_differ("bytes shown", &left.bytes, &right.bytes))
 }
 
 fn copies_differ(left: &OnCopy, right: &OnCopy) -> Option<String> {

@@ -1,5 +1,6 @@
 //! Runs the same lists of calls through two servers, and compares after every call all that can be
-//! seen: numbers, counts, the whole reply buffer, sizes, words, every byte of memory.
+//! seen: numbers, counts, the whole reply buffer, sizes, words, every byte of memory; and of slots
+//! that are shown the number, the place and the bytes.
 //!
 //! `generator` makes the calls of a seed, `pair` runs them side by side, `shrink` makes a list with
 //! a difference short, `seed` puts these together, `tally` counts what was met, and `program` runs
@@ -20,10 +21,10 @@ pub mod wire;
 
 pub use difference::Difference;
 pub use generator::Generator;
-pub use list::{Call, Damage, Edit, Lent, List, Request, Step, Table};
+pub use list::{Call, Damage, Edit, Lent, List, Page, Request, Step, Table, View};
 pub use random::Random;
 pub use seed::{differs, try_seed, Found};
 #[cfg(feature = "proved")]
 pub use server::Proved;
-pub use server::{Answer, Second, Server};
+pub use server::{Answer, Second, Server, Shown};
 pub use tally::Tally;

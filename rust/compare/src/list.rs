@@ -6,7 +6,7 @@ use second::{Geometry, Store};
 
 use crate::wire;
 
-/// Calls, and damages of the store between them, from an empty store on.
+/// Calls, slots to show and damages of the store between them, from an empty store on.
 #[derive(Clone, Debug)]
 pub struct List {
     pub geometry: Geometry,
@@ -16,6 +16,7 @@ pub struct List {
 #[derive(Clone, Debug)]
 pub enum Step {
     Serve(Call),
+    Show(View),
     Damage(Damage),
 }
 
@@ -26,6 +27,22 @@ pub struct Call {
     pub verifier: Vec<u8>,
     pub reply_length: usize,
     pub lent: Lent,
+}
+
+/// All arguments of one call that shows a slot, but for the store.
+#[derive(Clone, Debug)]
+pub struct View {
+    pub file: u64,
+    pub slot: u64,
+    pub page: Page,
+    pub lent: Lent,
+}
+
+/// A page of zeros, but for one byte.
+#[derive(Clone, Copy, Debug, PartialEq, Eq)]
+pub struct Page {
+    pub length: usize,
+    pub set: Option<(usize, u8)>,
 }
 
 /// A request: a header, operations, and changes of the whole's bytes.
@@ -95,6 +112,21 @@ impl Request {
     }
 }
 
+impl Page {
+    pub fn zeros(length: usize) -> Page {
+        Page { length, set: None }
+    }
+
+    /// The page's bytes; none is set where the place is past their end.
+    pub fn bytes(&self) -> Vec<u8> {
+        let mut bytes = vec![0; self.length];
+        if let Some((at, byte)) = self.set {
+            Edit::Set { at, byte }.apply(&mut bytes);
+        }
+        bytes
+    }
+}
+
 impl Edit {
     fn apply(self, bytes: &mut Vec<u8>) {
         match self {
@@ -145,6 +177,7 @@ impl fmt::Display for List {
         for (index, step) in self.steps.iter().enumerate() {
             match step {
                 Step::Serve(call) => write!(f, "{}. {call}", index + 1)?,
+                Step::Show(view) => write!(f, "{}. {view}", index + 1)?,
                 Step::Damage(damage) => writeln!(f, "{}. store: {damage:?}", index + 1)?,
             }
         }
@@ -176,17 +209,37 @@ impl fmt::Display for Call {
         }
         write!(f, ", verifier {}", Words(&self.verifier))?;
         writeln!(f, ", reply buffer of {}", self.reply_length)?;
-        if let Some(geometry) = &self.lent.geometry {
-            writeln!(f, "   with geometry {}", Numbers(geometry))?;
-        }
-        for (table, length) in &self.lent.lengths {
-            writeln!(f, "   with length {length} of {table:?}")?;
-        }
+        write!(f, "{}", self.lent)?;
         for operation in &request.operations {
             writeln!(f, "   {:<10} {}", title(operation), Words(operation))?;
         }
         for edit in &request.edits {
             writeln!(f, "   then {edit:?}")?;
+        }
+        Ok(())
+    }
+}
+
+impl fmt::Display for View {
+    fn fmt(&self, f: &mut fmt::Formatter) -> fmt::Result {
+        let View { file, slot, .. } = self;
+        write!(f, "show slot {slot} of file {file}")?;
+        write!(f, ", page of {}", self.page.length)?;
+        if let Some((at, byte)) = self.page.set {
+            write!(f, " with {byte} at {at}")?;
+        }
+        writeln!(f)?;
+        write!(f, "{}", self.lent)
+    }
+}
+
+impl fmt::Display for Lent {
+    fn fmt(&self, f: &mut fmt::Formatter) -> fmt::Result {
+        if let Some(geometry) = &self.geometry {
+            writeln!(f, "   with geometry {}", Numbers(geometry))?;
+        }
+        for (table, length) in &self.lengths {
+            writeln!(f, "   with length {length} of {table:?}")?;
         }
         Ok(())
     }

@@ -4,11 +4,12 @@ use std::fmt;
 
 use second::Store;
 
-use crate::server::Answer;
+use crate::server::{Answer, Shown};
 
 /// What one side shows of a step besides its store and its reply buffer.
 pub(crate) struct Observed {
     pub served: Option<Answer>,
+    pub shown: Option<Shown>,
     pub soundness: u32,
     pub counted: Answer,
     /// Of a call with tables of its own.
@@ -25,6 +26,7 @@ impl fmt::Display for Observed {
     fn fmt(&self, f: &mut fmt::Formatter) -> fmt::Result {
         let Observed {
             served,
+            shown,
             soundness,
             counted,
             on_copy,
@@ -32,6 +34,9 @@ impl fmt::Display for Observed {
         if let Some(Answer { number, counts }) = served {
             let [read, written] = counts;
             write!(f, "serve {number}, read {read}, written {written}; ")?;
+        }
+        if let Some(Shown { number, part, .. }) = shown {
+            write!(f, "slot_view {number}, part {part:?}; ")?;
         }
         write!(f, "soundness {soundness}; count_blocks {}", counted.number)?;
         write!(

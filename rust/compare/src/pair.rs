@@ -1,11 +1,13 @@
 //! Two servers side by side, each with its own store and reply buffer.
 
+use std::borrow::Cow;
+
 use second::{Geometry, Store, REPLY_MIN};
 
 use crate::difference::{
     answers_differ, observations_differ, slices_differ, tables_differ, Difference,
 };
-use crate::list::{Call, Step, Words};
+use crate::list::{Call, Step, View, Words};
 use crate::observed::{Observed, OnCopy};
 use crate::server::{Answer, Server};
 use crate::wire::{self, Outcome};
@@ -37,6 +39,7 @@ impl Side<'_> {
                 }
             }
             Step::Serve(call) => self.serve_on_copy(geometry, call),
+            Step::Show(view) => self.show(geometry, view),
         }
     }
 
@@ -45,6 +48,21 @@ impl Side<'_> {
         let request = call.request.bytes();
         self.server
             .serve(geometry, &mut self.store, &call.verifier, &request, reply)
+    }
+
+    fn show(&self, geometry: &Geometry, view: &View) -> Observed {
+        let geometry = view.lent.geometry.as_ref().unwrap_or(geometry);
+        let store = match view.lent.lengths[..] {
+            [] => Cow::Borrowed(&self.store),
+            _ => Cow::Owned(view.lent.tables(&self.store)),
+        };
+        let page = view.page.bytes();
+        let View { file, slot, .. } = *view;
+        let shown = self.server.slot_view(geometry, &store, &page, file, slot);
+        Observed {
+            shown: Some(shown),
+            ..judge(self.server, geometry, &store)
+        }
     }
 
     fn serve_on_copy(&mut self, geometry: &Geometry, call: &Call) -> Observed {
@@ -69,6 +87,7 @@ impl Side<'_> {
 fn judge(server: &dyn Server, geometry: &Geometry, store: &Store) -> Observed {
     Observed {
         served: None,
+        shown: None,
         soundness: server.soundness(geometry, store),
         counted: server.count_blocks(geometry, store),
         on_copy: None,

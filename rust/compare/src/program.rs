@@ -74,8 +74,8 @@ fn report(tally: &Tally) -> ExitCode {
         println!("not allowed: {strange}");
     }
     println!(
-        "{} lists, {} calls, {} operations compared",
-        tally.lists, tally.calls, tally.operations
+        "{} lists, {} calls, {} operations, {} slots shown compared",
+        tally.lists, tally.calls, tally.operations, tally.views
     );
     match strange.is_empty() {
         true => ExitCode::SUCCESS,

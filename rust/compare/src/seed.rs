@@ -71,13 +71,21 @@ fn run_seed(
         let call = Step::Serve(generator.call(pair.store()));
         calls.push(call.clone());
         run(&mut pair, call)?;
+        if let Some(view) = generator.view_after_call(pair.store()) {
+            run(&mut pair, Step::Show(view))?;
+        }
     }
     let damage = Step::Damage(generator.damage(pair.store()));
     if run(&mut pair, damage)? != 0 {
         calls.truncate(CALLS_IF_UNSOUND);
     }
+    let view = Step::Show(generator.view(pair.store()));
+    run(&mut pair, view)?;
     for call in calls {
         run(&mut pair, call)?;
+        if let Some(view) = generator.view_after_call(pair.store()) {
+            run(&mut pair, Step::Show(view))?;
+        }
     }
     tally.lists += 1;
     Ok(())

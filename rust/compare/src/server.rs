@@ -1,12 +1,21 @@
-//! What is compared: a server behind its four calls.
+//! What is compared: a server behind its five calls.
 
-use second::{Geometry, Store};
+use second::{Geometry, Kind, Store};
 
 /// A call's number, 0 or a refusal, and its two counts.
 #[derive(Clone, Copy, Debug, PartialEq, Eq)]
 pub struct Answer {
     pub number: u32,
     pub counts: [u64; 2],
+}
+
+/// A slot view's number, 0 or a refusal, and what it shows.
+#[derive(Clone, Debug, PartialEq, Eq)]
+pub struct Shown {
+    pub number: u32,
+    /// Of the block memory (0) or of the zero page (1), where the part starts there, its length.
+    pub part: [u64; 3],
+    pub bytes: Vec<u8>,
 }
 
 pub trait Server {
@@ -16,6 +25,15 @@ pub trait Server {
 
     /// The number, used and owed blocks.
     fn count_blocks(&self, geometry: &Geometry, store: &Store) -> Answer;
+
+    fn slot_view(
+        &self,
+        geometry: &Geometry,
+        store: &Store,
+        page: &[u8],
+        file: u64,
+        slot: u64,
+    ) -> Shown;
 
     /// The number, bytes read and bytes written.
     fn serve(
@@ -31,6 +49,11 @@ pub trait Server {
 /// The program in plain Rust.
 pub struct Second;
 
+/// Where a part of a slice starts in it.
+fn start_of(part: &[u8], whole: &[u8]) -> u64 {
+    (part.as_ptr() as u64).wrapping_sub(whole.as_ptr() as u64)
+}
+
 impl Server for Second {
     fn make_empty(&self, geometry: &Geometry, store: &mut Store) -> u32 {
         second::make_empty(geometry, store)
@@ -45,6 +68,27 @@ impl Server for Second {
         Answer {
             number: counted.number,
             counts: [counted.used, counted.owed],
+        }
+    }
+
+    fn slot_view(
+        &self,
+        geometry: &Geometry,
+        store: &Store,
+        page: &[u8],
+        file: u64,
+        slot: u64,
+    ) -> Shown {
+        let shown = second::slot(geometry, store, page, file, slot);
+        let (which, whole) = match shown.kind {
+            Kind::Data => (0, &store.mem[..]),
+            Kind::Hole => (1, page),
+        };
+        let (start, length) = (start_of(shown.bytes, whole), shown.bytes.len());
+        Shown {
+            number: shown.number,
+            part: [which, start, length as u64],
+            bytes: shown.bytes.to_vec(),
         }
     }
 
@@ -80,6 +124,18 @@ mod proved {
         }
     }
 
+    /// The bytes of a part; none where it doesn't lie in its slice.
+    fn bytes_of(part: [u64; 3], mem: &[u8], page: &[u8]) -> Vec<u8> {
+        let [which, start, length] = part;
+        let whole = match which {
+            0 => mem,
+            1 => page,
+            _ => &[],
+        };
+        let rest = whole.get(start as usize..).unwrap_or_default();
+        rest.get(..length as usize).unwrap_or_default().to_vec()
+    }
+
     fn answer(answer: server_sys::Answer) -> Answer {
         Answer {
             number: answer.number,
@@ -101,6 +157,23 @@ mod proved {
         fn count_blocks(&self, geometry: &Geometry, store: &Store) -> Answer {
             let Store { sizes, words, mem } = store;
             answer(server_sys::count_blocks(&four(geometry), sizes, words, mem))
+        }
+
+        fn slot_view(
+            &self,
+            geometry: &Geometry,
+            store: &Store,
+            page: &[u8],
+            file: u64,
+            slot: u64,
+        ) -> Shown {
+            let Store { sizes, words, mem } = store;
+            let shown = server_sys::slot_view(&four(geometry), sizes, words, mem, page, file, slot);
+            Shown {
+                number: shown.number,
+                part: shown.part,
+                bytes: bytes_of(shown.part, mem, page),
+            }
         }
 
         fn serve(

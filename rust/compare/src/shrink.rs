@@ -1,6 +1,6 @@
 //! Makes a list short by leaving out what isn't needed.
 
-use crate::list::{Call, Lent, List, Step};
+use crate::list::{Call, Lent, List, Page, Step, View};
 use crate::wire;
 
 /// Leaves out steps and parts of steps, one after the other, as long as the list fails.
@@ -47,15 +47,36 @@ fn leave_out_parts(list: &mut List, fails: &impl Fn(&List) -> bool) -> bool {
 
 /// The list with one part left out of one step, in every way.
 fn with_less(list: &List, index: usize) -> Vec<List> {
-    let Step::Serve(call) = &list.steps[index] else {
-        return Vec::new();
+    let steps: Vec<Step> = match &list.steps[index] {
+        Step::Serve(call) => less(call).into_iter().map(Step::Serve).collect(),
+        Step::Show(view) => plainer(view, list).into_iter().map(Step::Show).collect(),
+        Step::Damage(_) => Vec::new(),
     };
-    let with = |call| {
+    let with = |step| {
         let mut list = list.clone();
-        list.steps[index] = Step::Serve(call);
+        list.steps[index] = step;
         list
     };
-    less(call).into_iter().map(with).collect()
+    steps.into_iter().map(with).collect()
+}
+
+/// The view with a good page, or with the tables as they are.
+fn plainer(view: &View, list: &List) -> Vec<View> {
+    let good = Page::zeros(list.geometry.block_size as usize);
+    let mut views = Vec::new();
+    if view.page != good {
+        views.push(View {
+            page: good,
+            ..view.clone()
+        });
+    }
+    if !view.lent.is_usual() {
+        views.push(View {
+            lent: Lent::default(),
+            ..view.clone()
+        });
+    }
+    views
 }
 
 /// The call with one operation or one peculiarity less, or with plain data, in every way.

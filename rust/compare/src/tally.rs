@@ -6,6 +6,7 @@ use std::fmt;
 use second::Geometry;
 
 use crate::observed::Observed;
+use crate::server::Shown;
 use crate::wire::{self, Outcome};
 
 /// The statuses of operations.
@@ -29,12 +30,15 @@ const STATUSES: [(u32, &str); 14] = [
 /// The statuses of replies without a result: an empty list, minor version, too many operations.
 const WITHOUT_RESULT: [u32; 3] = [0, 10021, 10070];
 
-/// The calls, each with its numbers from 0 on.
-const NUMBERS: [(&str, u32); 4] = [
-    ("serve", 6),
-    ("soundness", 3),
-    ("count_blocks", 3),
-    ("make_empty", 2),
+/// The calls, each with its numbers; and where a slot that was shown lies, in the memory or in the
+/// page.
+const NUMBERS: [(&str, &[u32]); 6] = [
+    ("serve", &[0, 1, 2, 3, 4, 5, 6]),
+    ("soundness", &[0, 1, 2, 3]),
+    ("count_blocks", &[0, 1, 2, 3]),
+    ("make_empty", &[0, 1, 2]),
+    ("slot_view", &[0, 1, 2, 3, 8]),
+    ("shown in", &[0, 1]),
 ];
 
 /// The statuses that document 01 allows an operation.
@@ -69,6 +73,7 @@ pub struct Tally {
     pub lists: u64,
     pub calls: u64,
     pub operations: u64,
+    pub views: u64,
     results: BTreeMap<(u32, u32), u64>,
     without_result: BTreeMap<u32, u64>,
     answers: BTreeMap<(&'static str, u32), u64>,
@@ -86,8 +91,19 @@ impl Tally {
             self.calls += 1;
             self.add_answer("serve", served.number);
         }
+        if let Some(shown) = &observed.shown {
+            self.add_view(shown);
+        }
         if let Some(outcome) = outcome {
             self.add_outcome(outcome);
+        }
+    }
+
+    fn add_view(&mut self, shown: &Shown) {
+        self.views += 1;
+        self.add_answer("slot_view", shown.number);
+        if shown.number == 0 {
+            self.add_answer("shown in", shown.part[0] as u32);
         }
     }
 
@@ -142,7 +158,7 @@ impl Tally {
             .map(|status| format!("no result with {status}"));
         let answers = NUMBERS
             .into_iter()
-            .flat_map(|(call, last)| (0..=last).map(move |number| (call, number)))
+            .flat_map(|(call, numbers)| numbers.iter().map(move |&number| (call, number)))
             .filter(|&(call, number)| self.answers(call, number) == 0)
             .map(|(call, number)| format!("{call} {number}"));
         results.chain(without).chain(answers).collect()
@@ -194,9 +210,9 @@ impl fmt::Display for Tally {
             write!(f, "  {status}: {}", self.without_result(status))?;
         }
         writeln!(f, "\n")?;
-        for (call, last) in NUMBERS {
+        for (call, numbers) in NUMBERS {
             write!(f, "{call:<12}")?;
-            for number in 0..=last {
+            for &number in numbers {
                 write!(f, "  {number}: {}", self.answers(call, number))?;
             }
             writeln!(f)?;

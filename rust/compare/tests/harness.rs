@@ -1,6 +1,6 @@
 //! The comparison itself, tried on servers with one fault each.
 
-use compare::{differs, try_seed, Answer, Found, List, Second, Server, Step, Tally};
+use compare::{differs, try_seed, Answer, Found, List, Second, Server, Shown, Step, Tally};
 use second::{Geometry, Store};
 
 /// The plain program, with a fault in what it serves.
@@ -55,6 +55,17 @@ impl<F: Fn(Scene)> Server for Serving<F> {
         Second.count_blocks(geometry, store)
     }
 
+    fn slot_view(
+        &self,
+        geometry: &Geometry,
+        store: &Store,
+        page: &[u8],
+        file: u64,
+        slot: u64,
+    ) -> Shown {
+        Second.slot_view(geometry, store, page, file, slot)
+    }
+
     fn serve(
         &self,
         geometry: &Geometry,
@@ -98,6 +109,77 @@ impl<F: Fn(&mut Store)> Server for Judging<F> {
 
     fn count_blocks(&self, geometry: &Geometry, store: &Store) -> Answer {
         Second.count_blocks(geometry, &self.seen(store))
+    }
+
+    fn slot_view(
+        &self,
+        geometry: &Geometry,
+        store: &Store,
+        page: &[u8],
+        file: u64,
+        slot: u64,
+    ) -> Shown {
+        Second.slot_view(geometry, store, page, file, slot)
+    }
+
+    fn serve(
+        &self,
+        geometry: &Geometry,
+        store: &mut Store,
+        verifier: &[u8],
+        request: &[u8],
+        reply: &mut [u8],
+    ) -> Answer {
+        Second.serve(geometry, store, verifier, request, reply)
+    }
+}
+
+/// A slot to show.
+struct Asked<'a> {
+    geometry: &'a Geometry,
+    store: &'a Store,
+    page: &'a [u8],
+    file: u64,
+    slot: u64,
+}
+
+impl Asked<'_> {
+    fn shown(&self) -> Shown {
+        Second.slot_view(self.geometry, self.store, self.page, self.file, self.slot)
+    }
+}
+
+/// The plain program, with a fault in the slots that it shows.
+struct Showing(fn(Asked) -> Shown);
+
+impl Server for Showing {
+    fn make_empty(&self, geometry: &Geometry, store: &mut Store) -> u32 {
+        Second.make_empty(geometry, store)
+    }
+
+    fn soundness(&self, geometry: &Geometry, store: &Store) -> u32 {
+        Second.soundness(geometry, store)
+    }
+
+    fn count_blocks(&self, geometry: &Geometry, store: &Store) -> Answer {
+        Second.count_blocks(geometry, store)
+    }
+
+    fn slot_view(
+        &self,
+        geometry: &Geometry,
+        store: &Store,
+        page: &[u8],
+        file: u64,
+        slot: u64,
+    ) -> Shown {
+        (self.0)(Asked {
+            geometry,
+            store,
+            page,
+            file,
+            slot,
+        })
     }
 
     fn serve(
@@ -148,7 +230,7 @@ fn shorter_lists(list: &List) -> Vec<List> {
 fn operations(list: &List) -> usize {
     let of = |step: &Step| match step {
         Step::Serve(call) => call.request.operations.len(),
-        Step::Damage(_) => 0,
+        Step::Show(_) | Step::Damage(_) => 0,
     };
     list.steps.iter().map(of).sum()
 }
@@ -244,4 +326,89 @@ fn a_reserve_that_is_counted_for_holes_alone() {
     // The clone of a reserved slot owes a block.
     assert!(found.difference.what.ends_with("of count_blocks"));
     assert!(found.list.to_string().contains("CLONE"));
+}
+
+#[test]
+fn a_slot_that_is_shown_from_another_place() {
+    let next_block = found(&Showing(|asked| {
+        let mut shown = asked.shown();
+        if shown.part[0] == 0 {
+            shown.part[1] += asked.geometry.block_size;
+        }
+        shown
+    }));
+    assert!(next_block.difference.what.starts_with("part shown at 1"));
+    // The block of a slot in the memory has been written.
+    assert!(operations(&next_block.list) >= 2, "{}", next_block.list);
+    let in_memory = found(&Showing(|asked| {
+        let mut shown = asked.shown();
+        shown.part[0] = 0;
+        shown
+    }));
+    assert!(in_memory.difference.what.starts_with("part shown at 0"));
+    let whole_page = found(&Showing(|asked| {
+        let mut shown = asked.shown();
+        shown.part[2] = shown.part[2].max(asked.page.len() as u64);
+        shown
+    }));
+    assert!(whole_page.difference.what.starts_with("part shown at 2"));
+    // A slot of the empty store, and perhaps a damage for its refusal.
+    assert_eq!(in_memory.list.steps.len(), 1, "{}", in_memory.list);
+    assert!(whole_page.list.steps.len() <= 2, "{}", whole_page.list);
+}
+
+#[test]
+fn a_byte_of_a_slot_that_is_shown() {
+    let found = found(&Showing(|asked| {
+        let mut shown = asked.shown();
+        if let Some(byte) = shown.bytes.last_mut() {
+            *byte ^= 1;
+        }
+        shown
+    }));
+    assert!(found.difference.what.starts_with("bytes shown at"));
+    assert_eq!(found.list.steps.len(), 1, "{}", found.list);
+}
+
+#[test]
+fn a_slot_that_is_not_refused() {
+    let faults: [fn(Asked) -> Shown; 5] = [
+        // A page of another length; one that isn't all zero.
+        |asked| {
+            let mut page = asked.page.to_vec();
+            page.resize(asked.geometry.block_size.min(4096) as usize, 0);
+            let page = &page[..];
+            Asked { page, ..asked }.shown()
+        },
+        |asked| {
+            let page = &vec![0; asked.page.len()];
+            Asked { page, ..asked }.shown()
+        },
+        // A slot past the last one, taken as the next file's; numbers cut to 32 bits.
+        |asked| {
+            let slots = asked.geometry.slots.max(1);
+            let at = asked.file.saturating_mul(slots).saturating_add(asked.slot);
+            let (file, slot) = (at / slots, at % slots);
+            Asked {
+                file,
+                slot,
+                ..asked
+            }
+            .shown()
+        },
+        |asked| {
+            let file = u64::from(asked.file as u32);
+            Asked { file, ..asked }.shown()
+        },
+        |asked| {
+            let slot = u64::from(asked.slot as u32);
+            Asked { slot, ..asked }.shown()
+        },
+    ];
+    for fault in faults {
+        let found = found(&Showing(fault));
+        assert!(found.difference.what.ends_with("of slot_view"));
+        assert_eq!(found.list.steps.len(), 1, "{}", found.list);
+        assert!(found.list.to_string().contains("show slot"));
+    }
 }

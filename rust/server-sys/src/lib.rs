@@ -19,8 +19,16 @@ pub struct Answer {
     pub counts: [u64; 2],
 }
 
-/// What the counts hold before a call; every call sets both.
-const UNSET: [u64; 2] = [u64::MAX; 2];
+/// A slot view's number, 0 or a refusal, and the part it shows: of the block memory (0) or of the
+/// page (1), where it starts there, and its length.
+#[derive(Clone, Copy, Debug, PartialEq, Eq)]
+pub struct Shown {
+    pub number: u32,
+    pub part: [u64; 3],
+}
+
+/// What counts and parts hold before a call; every call sets all of theirs.
+const UNSET: u64 = u64::MAX;
 
 mod archive {
     extern "C" {
@@ -64,6 +72,24 @@ mod archive {
             counts: *mut u64,
         ) -> u32;
 
+        pub fn store_slot_view(
+            files: u64,
+            slots: u64,
+            blocks: u64,
+            block_size: u64,
+            sizes: *const u64,
+            sizes_len: usize,
+            words: *const u32,
+            words_len: usize,
+            mem: *const u8,
+            mem_len: usize,
+            page: *const u8,
+            page_len: usize,
+            file: u64,
+            slot: u64,
+            shown: *mut u64,
+        ) -> u32;
+
         pub fn compound_serve(
             files: u64,
             slots: u64,
@@ -86,7 +112,7 @@ mod archive {
     }
 }
 
-// In all four calls: the pointers and lengths are those of live slices that nobody else uses
+// In all five calls: the pointers and lengths are those of live slices that nobody else uses
 // meanwhile, and the pointer of an empty slice isn't null.
 
 /// Zeroes every table and the block memory: 0, or 1 or 2.
@@ -134,7 +160,7 @@ pub fn soundness(geometry: &Geometry, sizes: &[u64], words: &[u32], mem: &[u8]) 
 
 /// Used and owed blocks: 0 and the counts, else 1, 2 or 3 and zeros.
 pub fn count_blocks(geometry: &Geometry, sizes: &[u64], words: &[u32], mem: &[u8]) -> Answer {
-    let mut counts = UNSET;
+    let mut counts = [UNSET; 2];
     // SAFETY: see above; `counts` has the two numbers that are set.
     let number = unsafe {
         archive::store_count_blocks(
@@ -154,6 +180,41 @@ pub fn count_blocks(geometry: &Geometry, sizes: &[u64], words: &[u32], mem: &[u8
     Answer { number, counts }
 }
 
+/// Shows one slot without copying: 0 and its block's part of `mem`, or the whole zero page for a
+/// hole, else 1, 2, 3 or 8 and the page's empty start.
+pub fn slot_view(
+    geometry: &Geometry,
+    sizes: &[u64],
+    words: &[u32],
+    mem: &[u8],
+    page: &[u8],
+    file: u64,
+    slot: u64,
+) -> Shown {
+    let mut part = [UNSET; 3];
+    // SAFETY: see above; `part` has the three numbers that are set.
+    let number = unsafe {
+        archive::store_slot_view(
+            geometry.files,
+            geometry.slots,
+            geometry.blocks,
+            geometry.block_size,
+            sizes.as_ptr(),
+            sizes.len(),
+            words.as_ptr(),
+            words.len(),
+            mem.as_ptr(),
+            mem.len(),
+            page.as_ptr(),
+            page.len(),
+            file,
+            slot,
+            part.as_mut_ptr(),
+        )
+    };
+    Shown { number, part }
+}
+
 /// Runs one compound: 0, bytes read and bytes written, else 1 to 6 and zeros.
 pub fn serve(
     geometry: &Geometry,
@@ -164,7 +225,7 @@ pub fn serve(
     request: &[u8],
     reply: &mut [u8],
 ) -> Answer {
-    let mut counts = UNSET;
+    let mut counts = [UNSET; 2];
     // SAFETY: see above; `counts` has the two numbers that are set.
     let number = unsafe {
         archive::compound_serve(

@@ -1,6 +1,6 @@
 //! Each call with good and damaged arguments, and each number of a refusal.
 
-use server_sys::{count_blocks, make_empty, serve, soundness, Answer, Geometry};
+use server_sys::{count_blocks, make_empty, serve, slot_view, soundness, Answer, Geometry, Shown};
 
 const GEOMETRY: Geometry = Geometry {
     files: 4,
@@ -61,6 +61,16 @@ impl Tables {
 
     fn count_blocks(&self) -> Answer {
         count_blocks(&self.geometry, &self.sizes, &self.words, &self.mem)
+    }
+
+    fn slot_view(&self, page: &[u8], file: u64, slot: u64) -> Shown {
+        let Tables {
+            geometry,
+            sizes,
+            words,
+            mem,
+        } = self;
+        slot_view(geometry, sizes, words, mem, page, file, slot)
     }
 
     fn serve(&mut self, verifier: &[u8], request: &[u8], reply: &mut [u8]) -> Answer {
@@ -201,6 +211,40 @@ fn used_and_owed_blocks() {
     }
     for tables in damaged() {
         assert_eq!(tables.count_blocks(), refused(3));
+    }
+}
+
+#[test]
+fn slots() {
+    let page = [0; 512];
+    let shown = |number, part| Shown { number, part };
+    let used = Tables::used();
+    assert_eq!(used.slot_view(&page, 0, 0), shown(0, [0, 0, 512]));
+    assert_eq!(used.slot_view(&page, 0, 1), shown(0, [0, 512, 512]));
+    for (file, slot) in [(0, 2), (0, 15), (1, 0), (3, 15)] {
+        assert_eq!(used.slot_view(&page, file, slot), shown(0, [1, 0, 512]));
+    }
+    let refused = |number| shown(number, [1, 0, 0]);
+    for (file, slot) in [(4, 0), (0, 16), (4, 16), (1 << 32, 0), (0, u64::MAX)] {
+        assert_eq!(used.slot_view(&page, file, slot), refused(8));
+    }
+    for (number, tables) in misfits() {
+        assert_eq!(tables.slot_view(&page, 0, 0), refused(number));
+    }
+    for tables in damaged() {
+        assert_eq!(tables.slot_view(&page, 0, 0), refused(3));
+    }
+    // The page; the first refusal that applies.
+    for length in [0, 511, 513, 1024] {
+        let page = vec![1; length];
+        assert_eq!(used.slot_view(&page, 0, 0), refused(2));
+        assert_eq!(damaged()[0].slot_view(&page, 4, 0), refused(2));
+    }
+    for at in [0, 255, 511] {
+        let mut page = page;
+        page[at] = 1;
+        assert_eq!(used.slot_view(&page, 0, 0), refused(3));
+        assert_eq!(used.slot_view(&page, 4, 16), refused(3));
     }
 }
 

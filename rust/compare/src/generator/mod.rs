@@ -3,11 +3,12 @@
 mod aims;
 mod operations;
 mod scenarios;
+mod views;
 mod wrong;
 
 use second::{Geometry, Store, REPLY_MIN};
 
-use crate::list::{Call, Damage, Edit, Lent, Request};
+use crate::list::{Call, Damage, Edit, Lent, Request, View};
 use crate::pair::REPLY_MAX;
 use crate::random::Random;
 
@@ -17,9 +18,14 @@ const LARGE_EVERY: u64 = 10_000;
 
 const OPERATIONS_MAX: u64 = 12;
 
+/// One call in so many is followed by a slot to show.
+const CALLS_TO_A_VIEW: u64 = 10;
+
 pub struct Generator {
     pub geometry: Geometry,
     random: Random,
+    /// For the slots to show, so that the calls of a seed don't depend on them.
+    views: Random,
 }
 
 impl Generator {
@@ -30,13 +36,21 @@ impl Generator {
             _ if seed.is_multiple_of(LARGE_EVERY) => largest(512),
             _ => small(&mut random),
         };
-        Generator { geometry, random }
+        Generator {
+            geometry,
+            random,
+            views: Random::new(!seed),
+        }
     }
 
     /// A generator of calls for one geometry.
     pub fn with_geometry(geometry: Geometry, seed: u64) -> Generator {
         let random = Random::new(seed);
-        Generator { geometry, random }
+        Generator {
+            geometry,
+            random,
+            views: Random::new(!seed),
+        }
     }
 
     /// How many calls the list has.
@@ -70,6 +84,24 @@ impl Generator {
 
     pub fn damage(&mut self, store: &Store) -> Damage {
         self.maker(store).damage()
+    }
+
+    /// A slot to show after a call, now and then.
+    pub fn view_after_call(&mut self, store: &Store) -> Option<View> {
+        self.views
+            .once_in(CALLS_TO_A_VIEW)
+            .then(|| self.view(store))
+    }
+
+    /// A slot to show, any arguments but the store wrong now and then.
+    pub fn view(&mut self, store: &Store) -> View {
+        let mut maker = Maker {
+            error_prone: self.views.once_in(10),
+            random: &mut self.views,
+            geometry: self.geometry,
+            store,
+        };
+        maker.view()
     }
 
     fn maker<'a>(&'a mut self, store: &'a Store) -> Maker<'a> {

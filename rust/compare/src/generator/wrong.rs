@@ -39,7 +39,7 @@ impl Maker<'_> {
     }
 
     /// The geometry with one number changed, or with the same lengths by other numbers.
-    fn other_geometry(&mut self) -> Geometry {
+    pub fn other_geometry(&mut self) -> Geometry {
         let mut geometry = self.geometry;
         if self.random.once_in(6) {
             geometry.blocks *= 2;
@@ -69,7 +69,7 @@ impl Maker<'_> {
         geometry
     }
 
-    fn other_length(&mut self) -> (Table, usize) {
+    pub fn other_length(&mut self) -> (Table, usize) {
         let b = self.block_size() as usize;
         let (table, length, step) = match self.random.below(3) {
             0 => (Table::Sizes, self.store.sizes.len(), 1),

@@ -1,6 +1,7 @@
 // Runs whole and damaged tables through the store's own calls. Each line has a name, the number of `soundness`, the
-// numbers of `count_blocks` (refusal, used, owed), and of slot 0 of file 0 the refusal, 'hole' or 'data', and the length
-// shown. The tables are of F 2, S 4, N 4, B 512 unless the name says otherwise.
+// numbers of `count_blocks` (refusal, used, owed), and of slot 0 of file 0 the refusal, 'hole' or 'data', the length
+// shown, and if there are any the first four bytes and the last. A line whose first word is 'slot' has a name and
+// this of another slot. The tables are of F 2, S 4, N 4, B 512 unless the name says otherwise.
 use libc::STDOUT_FILENO;
 use tables::Geometry;
 
@@ -24,15 +25,40 @@ fn tell<'a>(name: &[u8], g: Geometry, sizes: &[u64], words: &[u32], mem: &'a [u8
     say_number(c.number as u64);
     say_number(c.used as u64);
     say_number(c.owed as u64);
-    let k = tables::slot_kind(g, sizes, words, mem, page, 0, 0);
-    say_number(k.number as u64);
-    say_kind(k.hole);
-    say_view(g, sizes, words, mem, page);
+    say_slot(g, sizes, words, mem, page, 0, 0);
     say(b"\n");
 }
 
-fn say_view<'a>(g: Geometry, sizes: &[u64], words: &[u32], mem: &'a [u8], page: &'a [u8]) {
-    say_number(tables::slot_view(g, sizes, words, mem, page, 0, 0).len() as u64);
+fn say_slot<'a>(
+    g: Geometry,
+    sizes: &[u64],
+    words: &[u32],
+    mem: &'a [u8],
+    page: &'a [u8],
+    file: usize,
+    slot: usize,
+) {
+    let kind = tables::slot_kind(g, sizes, words, mem, page, file, slot);
+    say_number(kind.number as u64);
+    say_kind(kind.hole);
+    say_part(tables::slot_view(g, sizes, words, mem, page, file, slot));
+}
+
+fn say_byte(byte: u8) {
+    say_number(byte as u64);
+}
+
+fn say_part(part: &[u8]) {
+    let length = part.len();
+    say_number(length as u64);
+    if length < 4 {
+        return;
+    }
+    say_byte(part[0]);
+    say_byte(part[1]);
+    say_byte(part[2]);
+    say_byte(part[3]);
+    say_byte(part[length - 1]);
 }
 
 fn small() -> Geometry {
@@ -114,7 +140,8 @@ fn lengths() {
     tell(b"page-short", small(), &sizes, &words, &mem, &page[..511]);
 }
 
-// One file with these three slot words and this size; the last byte of block 0 is `last`.
+// One file with these three slot words and this size. The blocks' first bytes are 11, 22, 33 and 44; the last byte of
+// block 0 is `last`.
 fn words_of(name: &[u8], size: u64, a: u32, b: u32, c: u32, last: u8) {
     let mut sizes = [0u64; 2];
     let mut words = [0u32; 8];
@@ -124,7 +151,11 @@ fn words_of(name: &[u8], size: u64, a: u32, b: u32, c: u32, last: u8) {
     words[0] = a;
     words[1] = b;
     words[2] = c;
+    mem[0] = 11;
     mem[511] = last;
+    mem[512] = 22;
+    mem[1024] = 33;
+    mem[1536] = 44;
     tell(name, small(), &sizes, &words, &mem, &page);
 }
 
@@ -189,6 +220,45 @@ fn pages() {
     );
 }
 
+// File 0 has block 1, a hole, block 2 with a reserve, and a slot past its size; file 1 shares block 1.
+fn show(name: &[u8], page: &[u8], file: usize, slot: usize) {
+    let sizes = [1536u64, 512];
+    let words = [4u32, 0, 7, 0, 4, 0, 0, 0];
+    let mut mem = [9u8; 2048];
+    say(b"slot ");
+    say(name);
+    mem[512] = 21;
+    mem[513] = 22;
+    mem[514] = 23;
+    mem[515] = 24;
+    mem[1023] = 29;
+    say_slot(small(), &sizes, &words, &mem, page, file, slot);
+    say(b"\n");
+}
+
+fn slots() {
+    let mut page = [0u8; 512];
+    show(b"block", &page, 0, 0);
+    show(b"hole", &page, 0, 1);
+    show(b"reserved-block", &page, 0, 2);
+    show(b"past-size", &page, 0, 3);
+    show(b"shared-block", &page, 1, 0);
+    show(b"last-of-all", &page, 1, 3);
+    show(b"no-slot", &page, 0, 4);
+    show(b"no-file", &page, 2, 0);
+    show(
+        b"neither",
+        &page,
+        18446744073709551615,
+        18446744073709551615,
+    );
+    show(b"short-page", &page[..511], 0, 0);
+    show(b"no-page", &page[..0], 0, 4);
+    page[0] = 1;
+    show(b"page-not-zero", &page, 0, 1);
+    show(b"page-before-slot", &page, 0, 4);
+}
+
 // Makes an empty store of tables that hold other numbers, and tells of them.
 fn make(name: &[u8], sizes: &mut [u64], words: &mut [u32], mem: &mut [u8], page: &[u8]) {
     say(b"make");
@@ -217,5 +287,6 @@ fn main() {
     owed();
     pool();
     pages();
+    slots();
     made();
 }

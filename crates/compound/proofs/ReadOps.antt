@@ -8,7 +8,7 @@ use native.Mathlib.Omega.{arith}
 use lib.ListN.{length, length-append}
 use lib.Dec.{leb, eqb}
 use Rattle.xdr.specs.Bytes.{splice, Written}
-use Rattle.xdr.specs.Encode.{be, u32, u64, bool, opaque, opaqueSize, concatMap}
+use Rattle.xdr.specs.Encode.{be, u32, bool, opaque, opaqueSize, concatMap}
 use Rattle.xdr.proofs.BytesLaws.{length-splice, written-then}
 use Rattle.xdr.proofs.EncodeLaws.{length-u32, length-bool}
 use Rattle.rules.specs.Store.{Geometry, Store, sizeOf, bytesFrom, sound}

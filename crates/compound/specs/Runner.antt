@@ -5,11 +5,10 @@ use mathlib.Core.Bool.{true}
 use mathlib.Core.Option.{Option, none, some}
 use mathlib.Core.List.{List, _++_}
 use lib.ListN.{length}
-use Rattle.xdr.specs.declared.bytes.Span.{Span}
-use Rattle.xdr.specs.Bytes.{partOf, Written}
+use Rattle.xdr.specs.Bytes.{Written}
 use Rattle.xdr.specs.Encode.{u32, u64, concatMap}
 use Rattle.rules.specs.Store.{Geometry, goodGeometry, Store, sound}
-use Rattle.rules.specs.Operation.{op, bad, itemAt, Header}
+use Rattle.rules.specs.Operation.{op, bad, itemAt}
 use Rattle.rules.specs.Run.{State, fileOf, Config, config, Event, failed, perform}
 use Rattle.rules.specs.Calls.{resultBytes, placeAfter, lastPlace, lastStatus, lastStore, Call, Outcome}
 use Rattle.tables.specs.Lent.{geometryOf, Held}

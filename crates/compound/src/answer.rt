@@ -1,9 +1,8 @@
 // Handles, the place of the next result, and what an operation answers.
 ghost use mathlib.Core.Path.{_≡_};
-ghost use mathlib.Core.List.{[], _++_};
+ghost use mathlib.Core.List.{[]};
 ghost use Prim.Native.Nat.{_+_, _≤_};
 ghost use lib.ListN.{length};
-ghost use Rattle.xdr.specs.Bytes.{Written};
 ghost use Rattle.xdr.specs.Encode.{u32};
 ghost use Rattle.rules.specs.Run.{fileOf};
 ghost use Rattle.compound.specs.Runner.{fileIn, Wrote};

@@ -1,12 +1,12 @@
 // The result of an edit.
 ghost use mathlib.Core.Path.{_≡_};
-ghost use mathlib.Core.Bool.{true, cond};
+ghost use mathlib.Core.Bool.{cond};
 ghost use mathlib.Core.List.{[]};
 ghost use Prim.Native.Nat.{_+_, _-_, _^_, _<_, _≤_};
 ghost use lib.ListN.{length};
 ghost use Rattle.xdr.specs.Bytes.{Written};
 ghost use Rattle.xdr.specs.Encode.{u64};
-ghost use Rattle.rules.specs.Operation.{NOSPC, writeReply, copyReply};
+ghost use Rattle.rules.specs.Operation.{NOSPC};
 ghost use Rattle.compound.specs.Runner.{Wrote};
 ghost use Rattle.compound.specs.Does.{editBytes};
 use crate::answer::Answer;

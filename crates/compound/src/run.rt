@@ -24,7 +24,6 @@ use tables::Geometry;
 use wire::Item;
 use wire::Operation;
 use wire::item;
-use wire::put_result;
 use xdr::Cursor;
 
 // What the serving call is given beside the store, the request and the reply buffer.

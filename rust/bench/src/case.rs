@@ -150,8 +150,17 @@ fn compounds(
     Work::Serve(requests.collect())
 }
 
+/// The slots of a file that are edited: all, or fewer where the pool has no block for each slot.
+fn reach(geometry: &Geometry) -> u64 {
+    if geometry.files * geometry.slots <= geometry.blocks {
+        geometry.slots
+    } else {
+        geometry.blocks / (2 * geometry.files)
+    }
+}
+
 fn writes(geometry: &Geometry, calls: usize) -> Work {
-    let places = geometry.slots * geometry.block_size - WRITTEN;
+    let places = reach(geometry) * geometry.block_size - WRITTEN;
     compounds(geometry, calls, |random| {
         let data = random.bytes(WRITTEN as usize);
         wire::write(ZEROS, random.below(places), 2, &data)
@@ -169,7 +178,7 @@ fn reads(geometry: &Geometry, calls: usize) -> Work {
 fn allocates(geometry: &Geometry, calls: usize) -> Work {
     let slots = geometry.slots.min(4);
     compounds(geometry, calls, |random| {
-        let first = random.below(geometry.slots - slots + 1);
+        let first = random.below(reach(geometry) - slots + 1);
         let [offset, length] = [first, slots].map(|count| count * geometry.block_size);
         wire::region(wire::ALLOCATE, ZEROS, offset, length)
     })

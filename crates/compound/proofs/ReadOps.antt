@@ -24,7 +24,7 @@ use Rattle.rules.proofs.SoundLaws.{sound-facts}
 use Rattle.rules.proofs.BodyLaws.{read-plus-most}
 use Rattle.compound.proofs.PieceLaws.{length-pieces}
 use Rattle.compound.specs.declared.answer.Position.{Position}
-use Rattle.compound.specs.Runner.{fileIn, stateOf, Known, Shows}
+use Rattle.compound.specs.Runner.{fileIn, stateOf, Known, Shows, Seeks}
 use Rattle.compound.proofs.RunLaws.{current-known}
 use Rattle.compound.proofs.SpliceLaws.{written-before}
 
@@ -63,6 +63,12 @@ module _ {g : Geometry} {st : Store} (s : Shaped g st) where
 
 -- ---- the bodies
 
+-- SEEK: eof and the place
+pub seek-written : (g : Geometry) (st : Store) (f off what : ℕ) {k at q : ℕ} {x z : List ℕ} → k ≡ seekPlace g st f (eqb what 1) off
+    → Written (seekResult .write (eqb k (sizeOf st f), k)) 12 at x z q → Written (seekReply g st f off what) 12 at x z q
+unfolding seekReply
+seek-written g st f off what e v = rw (← e) v
+
 module _ {g : Geometry} {st : Store} {f at : ℕ} {reply : List ℕ} (w : Shows g st f reply at) where
   known : Sound g st
   known = facts (w .shaped) (w .sound)
@@ -92,11 +98,9 @@ module _ {g : Geometry} {st : Store} {f at : ℕ} {reply : List ℕ} (w : Shows 
       → Readable g (st .words) (st .mem) f (off + m) × (p + opaqueSize m ≤ length y)
   bytes-fit off n a b c v = (shown-readable (omega (arith, b, c)), omega (arith, a, b, v .place, written-long v (omega (arith, w .room)), w .room))
 
-  -- SEEK: eof and the place
-  pub seek-written : (off what : ℕ) {k n q : ℕ} {z : List ℕ} → k ≡ seekPlace g st f (eqb what 1) off
-      → Written (seekResult .write (eqb k (sizeOf st f), k)) n at reply z q → Written (seekReply g st f off what) (length (seekReply g st f off what)) at reply z q
-  unfolding seekReply
-  seek-written off what e v = written-as (rw e) v
+  -- SEEK: what it asks
+  pub shown-seeks : Seeks g (st .sizes) (st .words) f reply at
+  shown-seeks = record { placed = shown-placed; listed = file-listed (w .shaped) (w .file); room = omega (arith, w .room) }
 
   -- READ_PLUS: eof is written first
   module _ (off n : ℕ) {k end p : ℕ} {bs x : List ℕ} (a : k ≡ granted n) (b : end ≡ min (off + k) (sizeOf st f)) (v : Written bs 4 at reply x p) where

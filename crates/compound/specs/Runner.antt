@@ -4,13 +4,14 @@ use mathlib.Core.Path.{_≡_}
 use mathlib.Core.Bool.{true}
 use mathlib.Core.Option.{Option, none, some}
 use mathlib.Core.List.{List, _++_}
-use lib.ListN.{length}
+use lib.ListN.{length, getD}
 use Rattle.xdr.specs.Bytes.{Written}
 use Rattle.xdr.specs.Encode.{u32, u64, concatMap}
 use Rattle.rules.specs.Store.{Geometry, goodGeometry, Store, sound}
 use Rattle.rules.specs.Operation.{op, bad, itemAt}
 use Rattle.rules.specs.Run.{State, fileOf, Config, config, Event, failed, perform}
 use Rattle.rules.specs.Calls.{resultBytes, placeAfter, lastPlace, lastStatus, lastStore, Call, Outcome}
+use Rattle.store.specs.Readable.{Placed}
 use Rattle.tables.specs.Lent.{geometryOf, Held}
 use Rattle.tables.specs.Tables.{Shaped, TableTrue}
 use Rattle.compound.specs.declared.answer.Handle.{Handle}
@@ -63,6 +64,12 @@ pub record Shows (g : Geometry) (st : Store) (f : ℕ) (reply : List ℕ) (at : 
   pub sound : sound g st ≡ true
   pub file : f < g .F
   pub room : at + 2171 ≤ length reply
+
+-- where SEEK's body is written: file f has a slot word for each place below its size, and there is room at place `at`
+pub record Seeks (g : Geometry) (sizes ws : List ℕ) (f : ℕ) (reply : List ℕ) (at : ℕ) : Type 0 where
+  pub placed : Placed g ws f (getD sizes f 0)
+  pub listed : f < length sizes
+  pub room : at + 12 ≤ length reply
 
 -- ---- an operation
 

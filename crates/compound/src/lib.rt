@@ -1,4 +1,4 @@
-// The compound runner: operations decoded, run and answered. The rules stand in specs/.
+// The compound runner: operations run and answered.
 mod answer;
 mod clones;
 mod does;

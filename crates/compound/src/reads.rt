@@ -1,6 +1,7 @@
 // What READ, READ_PLUS, SEEK and GETFH show: the bodies, and the result.
 ghost use mathlib.Core.Path.{_≡_};
-ghost use Prim.Native.Nat.{_+_, _-_, _^_, _<_, _≤_, min};
+ghost use mathlib.Core.List.{List};
+ghost use Prim.Native.Nat.{ℕ, _+_, _-_, _^_, _<_, _≤_, min};
 ghost use lib.ListN.{length};
 ghost use lib.Dec.{leb};
 ghost use Rattle.xdr.specs.Bytes.{Written};
@@ -9,7 +10,7 @@ ghost use Rattle.tables.specs.Lent.{geometryOf, before, tables};
 ghost use Rattle.rules.specs.Read.{granted};
 ghost use Rattle.rules.specs.Operation.{readReply, readPlusReply, seekReply};
 ghost use Rattle.rules.specs.Run.{fileOf};
-ghost use Rattle.compound.specs.Runner.{fileIn, stateOf, Known, Shows, Wrote};
+ghost use Rattle.compound.specs.Runner.{fileIn, stateOf, Known, Shows, Wrote, Seeks};
 ghost use Rattle.compound.specs.Does.{viewBytes};
 use crate::answer::Answer;
 use crate::answer::Position;
@@ -113,21 +114,20 @@ fn put_read_plus(
     p.next
 }
 
-// SEEK's body: eof, the place.
+// SEEK's body: eof, the place. It depends on sizes and words alone.
 fn put_seek(
     g: Geometry,
     sizes: &[u64],
     words: &[u32],
-    mem: &[u8],
     f: usize,
     off: u64,
     what: u32,
     reply: &mut [u8],
     at: usize,
 ) -> usize
-    requires { ⌜ Shows (geometryOf g) (tables sizes words mem) f (now reply) at ⌝ }
-    ensures { λ r. ⌜ Written (seekReply (geometryOf g) (before sizes words mem) f off what)
-        (length (seekReply (geometryOf g) (before sizes words mem) f off what)) at (now (reply .entry)) (now (reply .exit)) r ⌝ }
+    requires { ⌜ Seeks (geometryOf g) (now sizes) (now words) f (now reply) at ⌝ }
+    ensures { λ r. ⌜ ((m : List ℕ) → Written (seekReply (geometryOf g) (record { sizes = now (sizes .entry); words = now (words .entry); mem = m }) f off what)
+        12 at (now (reply .entry)) (now (reply .exit)) r) ⌝ }
 {
     let size = sizes[f];
     let p = store::seek_file(g, words, size, f, what == 1, off);
@@ -170,7 +170,7 @@ fn put_view(
         View::Handle => put_handle(reply, at, f),
         View::Read(a) => put_read(g, sizes, words, mem, f, a.offset, a.count, reply, at),
         View::ReadPlus(a) => put_read_plus(g, sizes, words, mem, f, a.offset, a.count, reply, at),
-        View::Seek(a) => put_seek(g, sizes, words, mem, f, a.offset, a.count, reply, at),
+        View::Seek(a) => put_seek(g, sizes, words, f, a.offset, a.count, reply, at),
     }
 }
 

@@ -3,7 +3,7 @@ use Prim.Native.Nat.{ℕ, zero, suc, _+_, _-_, _*_, _/_, _%_, _≤_, _<_}
 use mathlib.Core.Path.{_≡_, refl, sym, _∙_}
 use mathlib.Core.Bool.{Bool, true, false, _||_, not, true≢false}
 use mathlib.Core.List.{List}
-use native.Mathlib.Nat.{le-refl, le-step, add-zero, add-suc, add-assoc, add-sub-of-le, div-add-mod', mod-lt, mul-le-mul-right, mul-add-div-right, mul-add-mod-self-right, div-eq-of-lt, mod-eq-of-lt}
+use native.Mathlib.Nat.{le-refl, le-step, add-zero, add-suc, add-assoc, add-sub-of-le, div-add-mod', mod-lt, mul-le-mul-right, le-of-mul-le-mul-right, mul-add-div-right, mul-add-mod-self-right, div-eq-of-lt, mod-eq-of-lt}
 use native.Mathlib.Numerals.{add-one, sub-one}
 use native.Mathlib.Decide.{decLe}
 use native.Mathlib.Omega.{arith}
@@ -110,6 +110,16 @@ module _ {b : ℕ} (pos : 0 < b) (n : ℕ) where
       go : Dec (ceilDiv n b ≤ n / b) → ceilDiv n b ≡ suc (n / b)
       go (yes l) = absurd (d (omega (arith, div-add-mod' n b, le-ceil pos n (n / b) l)))
       go (no u) = omega (arith, u, ceil-le pos n (suc (n / b)) (omega (arith, div-add-mod' n b, mod-lt n pos)))
+
+  -- the slots that n bytes have, by quotient and rest
+  pub ceil-whole : n % b ≡ 0 → n / b ≡ ceilDiv n b
+  ceil-whole e =
+      let l : ceilDiv n b ≤ n / b = ceil-le pos n (n / b) (omega (arith, div-add-mod' n b)) in
+      let u : n / b ≤ ceilDiv n b = le-of-mul-le-mul-right (omega (arith, div-add-mod' n b, ceil-even e, le-ceil pos n (ceilDiv n b) (le-refl _))) pos in
+      omega arith
+
+  pub ceil-part : (n % b ≡ 0 → ⊥) → n / b + 1 ≡ ceilDiv n b
+  ceil-part d = omega (arith, ceil-odd d)
 
   -- the slot that n cuts is one of the s slots that n fits in
   pub cut-slot : (s : ℕ) → n ≤ s * b → (n % b ≡ 0 → ⊥) → n / b < s

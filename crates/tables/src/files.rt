@@ -1,10 +1,10 @@
 // Whether each file is sound: its size, the slots past it, and the bytes of its last slot past it.
 ghost use mathlib.Core.Path.{_≡_};
 ghost use mathlib.Core.Bool.{_||_};
-ghost use Prim.Native.Nat.{_+_, _-_, _*_, _/_, _≤_};
+ghost use Prim.Native.Nat.{_+_, _-_, _*_, _/_, _<_, _≤_};
 ghost use lib.ListN.{length, getD};
 ghost use lib.Dec.{eqb, ltb};
-ghost use Rattle.rules.specs.Lists.{allTo};
+ghost use Rattle.rules.specs.Lists.{allTo, ceilDiv};
 ghost use Rattle.rules.specs.Store.{wordOf, slotByte, soundFile};
 ghost use Rattle.tables.specs.Lent.{geometryOf, before, tables};
 ghost use Rattle.tables.specs.Tables.{Pooled, FileKnown};
@@ -64,6 +64,18 @@ fn tail_zero(g: Geometry, mem: &[u8], w: u32, from: usize) -> bool
     zero_bytes(&mem[start..end])
 }
 
+// How many slots of b bytes a file of that size has, from one division.
+fn slots_of(size: usize, b: usize) -> usize
+    requires { ⌜ (0 < b) × (size ≤ 4194304) ⌝ }
+    ensures { λ r. ⌜ r ≡ ceilDiv size b ⌝ }
+{
+    let whole = size / b;
+    if size % b == 0 {
+        return whole;
+    }
+    whole + 1
+}
+
 // Whether file f is sound. Of the block memory only the bytes past the size, in its last slot's block, are read.
 fn file_sound(g: Geometry, sizes: &[u64], words: &[u32], mem: &[u8], f: usize) -> bool
     requires { ⌜ FileKnown (geometryOf g) (tables sizes words mem) f ⌝ }
@@ -74,7 +86,7 @@ fn file_sound(g: Geometry, sizes: &[u64], words: &[u32], mem: &[u8], f: usize) -
         return false;
     }
     let size = bytes as usize;
-    let end = (size + (g.block_size - 1)) / g.block_size;
+    let end = slots_of(size, g.block_size);
     if !slots_zero(g, words, f, end) {
         return false;
     }

@@ -21,6 +21,17 @@ struct State {
     more: bool,
 }
 
+impl State {
+    // Tables for F 4, S 16, N 32, B 4,096, and room for an answer.
+    const SIZES: usize = 4;
+
+    const WORDS: usize = 64;
+
+    const MEMORY: usize = 131072;
+
+    const ANSWER: usize = 65536;
+}
+
 fn say(text: &[u8]) {
     io::write_all(STDOUT_FILENO, text);
 }
@@ -95,7 +106,7 @@ fn serve_line(
 fn serve(g: Geometry, sizes: &mut [u64], words: &mut [u32], mem: &mut [u8], line: &[u8]) {
     let mut request = [0u8; Request::MAX_BYTES];
     let mut reply = [0u8; Served::MIN_REPLY];
-    let mut text = [0u8; 65536];
+    let mut text = [0u8; State::ANSWER];
     let n = serve_line(
         g,
         sizes,
@@ -216,7 +227,7 @@ fn geometry_asked(line: &[u8], numbers: &mut [u8]) -> Geometry
 }
 
 fn geometry_from(line: &[u8]) -> Geometry {
-    let mut numbers = [0u8; 4096];
+    let mut numbers = [0u8; Request::MAX_BYTES];
     geometry_asked(line, &mut numbers)
 }
 
@@ -334,11 +345,11 @@ fn take_all(line: &mut [u8], sizes: &mut [u64], words: &mut [u32], mem: &mut [u8
     }
 }
 
-// The tables hold F 4, S 16, N 32, B 4,096; the line one digit more than a compound may have.
+// The line has one digit more than a compound may have.
 fn main() {
     let mut line = [0u8; Request::KEPT];
-    let mut sizes = [0u64; 4];
-    let mut words = [0u32; 64];
-    let mut mem = [0u8; 131072];
+    let mut sizes = [0u64; State::SIZES];
+    let mut words = [0u32; State::WORDS];
+    let mut mem = [0u8; State::MEMORY];
     take_all(&mut line, &mut sizes, &mut words, &mut mem);
 }

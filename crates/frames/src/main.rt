@@ -16,6 +16,17 @@ struct Progress {
 }
 
 impl Progress {
+    // The program's store: F 4, S 16, N 32, B 512.
+    const SIZES: usize = 4;
+
+    const WORDS: usize = 64;
+
+    const MEMORY: usize = 16384;
+    // Bytes of input read at a time, and room for answers: twice what one line's can be.
+    const INPUT: usize = 65536;
+
+    const ANSWERS: usize = 131072;
+
     fn done() -> Progress
         ensures { λ r. ⌜ r .kept ≡ 0 ⌝ }
     {
@@ -260,12 +271,12 @@ fn serve_all(
 // The store is empty: its tables are zero. More than 8,192 digits are refused whatever they are, so of a line at most
 // 8,193 bytes are kept.
 fn main() {
-    let mut sizes = [0u64; 4];
-    let mut words = [0u32; 64];
-    let mut mem = [0u8; 16384];
+    let mut sizes = [0u64; Progress::SIZES];
+    let mut words = [0u32; Progress::WORDS];
+    let mut mem = [0u8; Progress::MEMORY];
     let mut line = [0u8; Request::KEPT];
-    let mut out = [0u8; 131072];
-    let mut input = [0u8; 65536];
+    let mut out = [0u8; Progress::ANSWERS];
+    let mut input = [0u8; Progress::INPUT];
     serve_all(
         &mut sizes,
         &mut words,

@@ -98,7 +98,7 @@ impl Cursor {
         let d = wide(s[at + 3]);
         Word::Value(
             a * 16777216 + (b * 65536 + (c * 256 + d)),
-            Cursor { at: at + 4 },
+            Cursor::new(at + 4),
         )
     }
 
@@ -143,7 +143,7 @@ impl Cursor {
         if end - at < n {
             return Bytes::Fault(end);
         }
-        Bytes::Found(Span { start: at, len: n }, Cursor { at: at + n })
+        Bytes::Found(Span { start: at, len: n }, Cursor::new(at + n))
     }
 
     // The span `d`, behind which `n` zero bytes stand here.
@@ -162,7 +162,7 @@ impl Cursor {
             at += 1;
             left -= 1;
         }
-        Bytes::Found(d, Cursor { at })
+        Bytes::Found(d, Cursor::new(at))
     }
 
     // Opaque data of at most `limit` bytes: its length, its bytes and a zero pad.

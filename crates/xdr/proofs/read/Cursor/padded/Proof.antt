@@ -1,5 +1,6 @@
 use mathlib.Core.Path.{_≡_, refl, sym, _∙_}
 use native.Mathlib.Omega.{arith}
+use borrow.Author.Needs.{needs}
 use Rattle.xdr.specs.Decode.{padded}
 use Rattle.xdr.proofs.DecodeLaws.{pad-end, pad-on, pad-cut, pad-wrong}
 use Rattle.xdr.proofs.read.Cursor.padded.Statement.{statement}
@@ -36,7 +37,7 @@ loop-again : tie.Need-loop-again Inv-loop μ-loop
 loop-again c = let l = c .before .before .before .before in sym (pad-on _ _ _ _ (c .before .before .before .loop-test .taken) (c .before .before .if1 .left) (c .if2 .left)) ∙ l .loop .inv
 
 returns-3 : tie.Need-returns-3 Inv-loop μ-loop
-returns-3 c = sym (sym (c .before .loop .inv) ∙ pad-end _ _ _ _ (omega arith))
+returns-3 c = rw (c .new .ensures) (sym (sym (c .before .before .loop .inv) ∙ pad-end _ _ _ _ (omega arith)))
 
 pub padded-spec : {M : Type 1} → statement M
 padded-spec =
@@ -52,4 +53,4 @@ padded-spec =
     sub-left
     loop-less
     loop-again
-    returns-3)
+    (λ c κs. search needs) returns-3)

@@ -13,11 +13,12 @@ returns-2 c = let a = c .before .before .before .args in sym (number-missing 4 (
 
 returns-3 : tie.Need-returns-3
 returns-3 c =
-    let k3 = c .before .before in
+    let k4 = c .before in
+    let k3 = k4 .before .before in
     let k2 = k3 .before .before in
     let k1 = k2 .before .before in
     let a = k1 .before .before .before .before .before .args in
-    word-value (a .s .now) (a .self .at) _ _ _ _ (omega arith) (k1 .wide .ensures .0) (k2 .wide2 .ensures .0) (k3 .wide3 .ensures .0) (c .wide4 .ensures .0)
+    rw (c .new .ensures) (word-value (a .s .now) (a .self .at) _ _ _ _ (omega arith) (k1 .wide .ensures .0) (k2 .wide2 .ensures .0) (k3 .wide3 .ensures .0) (k4 .wide4 .ensures .0))
 
 pub word-spec : {M : Type 1} → statement M
 word-spec =
@@ -28,4 +29,4 @@ word-spec =
     (λ c. search needs) (λ c κs. search needs) (λ c. search needs) (λ c. search needs) (λ c κs. search needs)
     (λ c. search needs) (λ c. search needs) (λ c κs. search needs) (λ c. search needs) (λ c. search needs)
     (λ c κs. search needs) (λ c. search needs) (λ c. search needs) (λ c. search needs) (λ c. search needs)
-    (λ c. search needs) (λ c. search needs) (λ c. search needs) returns-3)
+    (λ c. search needs) (λ c. search needs) (λ c. search needs) (λ c κs. search needs) returns-3)

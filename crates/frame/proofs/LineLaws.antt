@@ -8,7 +8,7 @@ use mathlib.Core.Logic.{_≢_}
 use native.Mathlib.Nat.{zero-add}
 use native.Mathlib.Omega.{arith}
 use lib.ListN.{length, take, drop, replicate, length-replicate, length-take}
-use lib.Seq.{length-take-le}
+use lib.Seq.{length-take-le, take-at}
 use lib.Dec.{ltb, eqb}
 use borrow.Author.Tests.{lt-ltb, le-ltb, eq-eqb, ne-eqb}
 use Rattle.xdr.specs.Bytes.{splice, Written}
@@ -23,7 +23,7 @@ use Rattle.frame.specs.LineCall.{lineInto, LinePromise}
 use Rattle.frame.proofs.HexLaws.{length-hex}
 
 -- written from the first byte on, bytes past them unchanged
-whole : {bs : List ℕ} {k n : ℕ} {out after : List ℕ} → Written bs k 0 out after n → (after ≡ bs ++ drop (length bs) out) × (n ≡ length bs)
+pub whole : {bs : List ℕ} {k n : ℕ} {out after : List ℕ} → Written bs k 0 out after n → (after ≡ bs ++ drop (length bs) out) × (n ≡ length bs)
 unfolding splice
 whole {bs} {out = out} w = (w .bytes ∙ ap (λ (k : ℕ). bs ++ drop k out) (zero-add (length bs)), omega (arith, w .place, w .size))
 
@@ -131,3 +131,23 @@ line-room st l {out = out} p = omega (arith, p .length-is, most (ltb (length out
     most : (t : Bool) → length (cond t (record { line = []; store = st }) (answerLine st l) .line) ≤ 54368
     most true = omega arith
     most false = line-most st l
+
+-- ---- a line that was written, as those who go on with it want it
+
+module _ (st : Store) (l : List ℕ) {out after : List ℕ} {n : ℕ} {left : Store} (h : 65536 ≤ length out) (p : LinePromise (lineInto out st l) out n after left) where
+  into : LinePromise (answerLine st l) out n after left
+  unfolding lineInto
+  into = rw (le-ltb (length out) 65536 h) at p
+
+  pub line-written : take n after ≡ answerLine st l .line
+  line-written = ap (take n) (into .out-is) ∙ take-at (answerLine st l .line) _ n (sym (into .length-is))
+
+  pub line-fits : n ≤ 54368
+  line-fits = omega (arith, into .length-is, line-most st l)
+
+  pub store-is : left ≡ answerLine st l .store
+  store-is =
+      let s = answerLine st l .store in
+      ap (λ x. record { sizes = x; words = left .words; mem = left .mem }) (into .sizes-are)
+      ∙ ap (λ x. record { sizes = s .sizes; words = x; mem = left .mem }) (into .words-are)
+      ∙ ap (λ x. record { sizes = s .sizes; words = s .words; mem = x }) (into .mem-is)

@@ -1,7 +1,8 @@
 //! Times the proved server and the program in plain Rust on the same recordings, or writes a
 //! recording of frames.
 //!
-//! `bench` prints the tables, `bench record LINES` that many frames.
+//! `bench` prints the tables, `bench record LINES` that many requests, `bench pairs PAIRS` that many
+//! of the same requests, each with its answer behind it.
 
 mod case;
 mod measure;
@@ -11,23 +12,29 @@ use std::io;
 use std::process::ExitCode;
 
 use compare::program::with_stack;
+use record::Written;
 
 fn main() -> io::Result<ExitCode> {
     let words: Vec<String> = std::env::args().skip(1).collect();
-    match &words[..] {
+    let words: Vec<&str> = words.iter().map(String::as_str).collect();
+    match words[..] {
         [] => with_stack(measure::tables),
-        [word, lines] if word == "record" => {
-            let Ok(lines) = lines.parse() else {
-                return Ok(usage());
-            };
-            record::write(lines)?;
-        }
+        ["record", lines] => return record(lines, Written::Request),
+        ["pairs", pairs] => return record(pairs, Written::RequestAndAnswer),
         _ => return Ok(usage()),
     }
     Ok(ExitCode::SUCCESS)
 }
 
+fn record(requests: &str, written: Written) -> io::Result<ExitCode> {
+    let Ok(requests) = requests.parse() else {
+        return Ok(usage());
+    };
+    record::write(requests, written)?;
+    Ok(ExitCode::SUCCESS)
+}
+
 fn usage() -> ExitCode {
-    eprintln!("arguments: none, or record LINES");
+    eprintln!("arguments: none, or record LINES, or pairs PAIRS");
     ExitCode::from(2)
 }

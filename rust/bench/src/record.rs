@@ -1,45 +1,34 @@
-//! A recording for the programs that serve frames: one request a line, in hexadecimal.
+//! Recordings for the programs that serve and replay frames, in hexadecimal.
 
 use std::io::{self, BufWriter, Write};
 
-use compare::{Generator, Second, Server};
-use second::{Geometry, Store, REPLY_MIN};
-
-/// The geometry of the programs.
-const GEOMETRY: Geometry = Geometry {
-    files: 4,
-    slots: 16,
-    blocks: 32,
-    block_size: 512,
-};
-
-/// The longest request that fits a line.
-const REQUEST_MAX: usize = 4096;
+use compare::Frames;
 
 const SEED: u64 = 1;
 
-/// The same lines every time. Each is made with the store in view that those before it leave.
-pub fn write(lines: u64) -> io::Result<()> {
+/// What is written of every request: one line each.
+#[derive(Clone, Copy, PartialEq, Eq)]
+pub enum Written {
+    Request,
+    RequestAndAnswer,
+}
+
+/// The same requests every time.
+pub fn write(requests: u64, written: Written) -> io::Result<()> {
     let mut output = BufWriter::new(io::stdout().lock());
-    let mut generator = Generator::with_geometry(GEOMETRY, SEED);
-    let mut store = Store::empty(&GEOMETRY);
-    let mut reply = vec![0; REPLY_MIN];
-    for _ in 0..lines {
-        let request = short_request(&mut generator, &store);
-        Second.serve(&GEOMETRY, &mut store, &[0; 8], &request, &mut reply);
-        for byte in request {
-            write!(output, "{byte:02x}")?;
+    let mut frames = Frames::new(SEED);
+    for _ in 0..requests {
+        let request = frames.request();
+        let answer = frames.answer(&request);
+        write_line(&mut output, &request)?;
+        if written == Written::RequestAndAnswer {
+            write_line(&mut output, &answer)?;
         }
-        writeln!(output)?;
     }
     output.flush()
 }
 
-fn short_request(generator: &mut Generator, store: &Store) -> Vec<u8> {
-    loop {
-        let request = generator.request(store);
-        if request.len() <= REQUEST_MAX {
-            return request;
-        }
-    }
+fn write_line(output: &mut impl Write, line: &[u8]) -> io::Result<()> {
+    output.write_all(line)?;
+    output.write_all(b"\n")
 }

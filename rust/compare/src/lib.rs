@@ -5,14 +5,18 @@
 //! `generator` makes the calls of a seed, `pair` runs them side by side, `shrink` makes a list with
 //! a difference short, `seed` puts these together, `tally` counts what was met, and `program` runs
 //! many seeds.
+//!
+//! `frames` makes the lines of the programs, and `recording` compares programs that replay them.
 
 mod difference;
+mod frames;
 mod generator;
 mod list;
 mod observed;
 mod pair;
 pub mod program;
 mod random;
+pub mod recording;
 mod seed;
 mod server;
 mod shrink;
@@ -20,6 +24,7 @@ mod tally;
 pub mod wire;
 
 pub use difference::Difference;
+pub use frames::Frames;
 pub use generator::Generator;
 pub use list::{Call, Damage, Edit, Lent, List, Page, Request, Step, Table, View};
 pub use random::Random;

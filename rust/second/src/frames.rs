@@ -5,7 +5,18 @@ use crate::geometry::Geometry;
 use crate::status::Refusal;
 use crate::store::Store;
 
-const DIGITS_MAX: usize = 8192;
+/// The program's geometry.
+pub const GEOMETRY: Geometry = Geometry {
+    files: 4,
+    slots: 16,
+    blocks: 32,
+    block_size: 512,
+};
+/// The program's verifier.
+pub const VERIFIER: [u8; 8] = [0; 8];
+
+/// The longest line that is looked at.
+pub(crate) const DIGITS_MAX: usize = 8192;
 
 /// Serves one line, without its newline: the reply's digits, or "-" and the refusal's number.
 pub fn line(geometry: &Geometry, store: &mut Store, verifier: &[u8], line: &[u8]) -> Vec<u8> {

@@ -2,7 +2,8 @@
 //!
 //! `xdr` reads and writes the wire forms, `operation` decodes the twelve operations, `store` and
 //! `edit` hold the rules of the store, `reading` answers READ, READ_PLUS and SEEK, `runner` runs the
-//! operations, `compound` a whole request, and `frames` is the program's line.
+//! operations, `compound` a whole request, `frames` is the program's line, and `replay` runs a
+//! recording of lines again.
 
 mod compound;
 mod edit;
@@ -10,13 +11,15 @@ mod frames;
 mod geometry;
 mod operation;
 mod reading;
+mod replay;
 mod runner;
 mod status;
 mod store;
 mod xdr;
 
 pub use compound::{serve, Served, REPLY_MIN, REQUEST_MAX};
-pub use frames::line;
+pub use frames::{line, GEOMETRY, VERIFIER};
 pub use geometry::Geometry;
+pub use replay::{replay, Verdict};
 pub use status::{Refusal, Status};
 pub use store::{count_blocks, make_empty, slot, soundness, Counted, Kind, Shown, Store};

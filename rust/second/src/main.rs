@@ -2,15 +2,7 @@
 
 use std::io::{self, BufRead, Write};
 
-use second::{Geometry, Store};
-
-const GEOMETRY: Geometry = Geometry {
-    files: 4,
-    slots: 16,
-    blocks: 32,
-    block_size: 512,
-};
-const VERIFIER: [u8; 8] = [0; 8];
+use second::{Store, GEOMETRY, VERIFIER};
 
 fn main() -> io::Result<()> {
     let mut store = Store::empty(&GEOMETRY);

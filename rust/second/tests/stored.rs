@@ -1,5 +1,5 @@
-//! The stored outputs of `crates/edits` and `crates/store_damage` are what the binaries of those
-//! names answer.
+//! The stored outputs of `crates/edits`, `crates/store_damage` and `crates/replay` are what the
+//! binaries of those names answer.
 
 use std::fs::{self, File};
 use std::path::{Path, PathBuf};
@@ -25,16 +25,36 @@ fn store_damage() {
     );
 }
 
-fn check(name: &str, program: &str, input: impl Into<Stdio>) {
+#[test]
+fn replay() {
+    let folder = fs::read_dir(stored("replay").join("recordings")).expect("recordings");
+    let paths = folder.map(|entry| entry.expect("an entry").path());
+    let recordings = paths.filter(|path| path.extension().is_some_and(|end| end == "in"));
+    let recordings: Vec<PathBuf> = recordings.collect();
+    assert!(!recordings.is_empty());
+    for recording in recordings {
+        let input = File::open(&recording).expect("a recording");
+        let expected = fs::read(recording.with_extension("out")).expect("its answer");
+        let answer = run(env!("CARGO_BIN_EXE_replay"), input);
+        assert!(answer == expected, "{}", recording.display());
+    }
+}
+
+fn run(program: &str, input: impl Into<Stdio>) -> Vec<u8> {
     let output = Command::new(program)
         .stdin(input)
         .output()
         .expect("the binary runs");
+    output.stdout
+}
+
+fn check(name: &str, program: &str, input: impl Into<Stdio>) {
+    let output = run(program, input);
     let expected = fs::read(stored(name).join("stdout")).expect("stdout");
-    for (at, (answer, line)) in lines(&output.stdout).zip(lines(&expected)).enumerate() {
+    for (at, (answer, line)) in lines(&output).zip(lines(&expected)).enumerate() {
         assert_eq!(answer, line, "line {}", at + 1);
     }
-    assert!(output.stdout == expected);
+    assert!(output == expected);
 }
 
 fn lines(text: &[u8]) -> impl Iterator<Item = &str> {

@@ -6,12 +6,12 @@ use Rattle.frames.proofs.serve_all.Statement.{statement}
 use Rattle.frames.proofs.serve_all.Tie as tie
 
 abbrev Inv-loop : tie.InvT-loop
-Inv-loop sizes₀ words₀ mem₀ line₀ out₀ input₀ p₀ turns₀ sizes words mem line out input p turns =
+Inv-loop sizes₀ words₀ mem₀ line₀ out₀ input₀ s₀ turns₀ sizes words mem line out input s turns =
     (length sizes ≡ length sizes₀) × ((length words ≡ length words₀) × ((length mem ≡ length mem₀) × ((length line ≡ length line₀) × ((length out ≡ length out₀)
-    × ((length input ≡ length input₀) × (p .kept ≤ length line))))))
+    × ((length input ≡ length input₀) × (s .kept ≤ 8193))))))
 
 abbrev μ-loop : tie.MeasureT-loop
-μ-loop sizes₀ words₀ mem₀ line₀ out₀ input₀ p₀ turns₀ sizes words mem line out input p turns = turns
+μ-loop sizes₀ words₀ mem₀ line₀ out₀ input₀ s₀ turns₀ sizes words mem line out input s turns = turns
 
 same-length : tie.Need-same-length Inv-loop μ-loop
 same-length c = c .before .before .loop .inv .0
@@ -59,7 +59,7 @@ pub serve-all-spec : {M : Type 1} → statement M
 serve-all-spec =
     tie.close
     (tie.spec
-    Inv-loop μ-loop (λ c. search needs) (λ c κs. search needs) (λ c. search needs) (λ c. search needs)
-    (λ c. search needs)
-    same-length same-length-2 same-length-3 same-length-4 same-length-5 same-length-6 returns
-    same-length-7 same-length-8 same-length-9 same-length-10 same-length-11 same-length-12 returns-2)
+    Inv-loop μ-loop (λ c κs. search needs) (λ c. search needs) (λ c κs. search needs) (λ c. search needs)
+    (λ c. search needs) (λ c. search needs) same-length same-length-2 same-length-3 same-length-4
+    same-length-5 same-length-6 returns same-length-7 same-length-8 same-length-9 same-length-10
+    same-length-11 same-length-12 returns-2)

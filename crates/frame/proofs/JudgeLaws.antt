@@ -8,7 +8,7 @@ use mathlib.Core.Logic.{_≢_}
 use native.Mathlib.Nat.{add-assoc, add-zero, zero-add}
 use native.Mathlib.Numerals.{add-one}
 use native.Mathlib.Omega.{arith}
-use lib.ListN.{length, getD, take, drop, length-append, length-drop, drop-of-length-le}
+use lib.ListN.{length, getD, take, drop, length-append, length-drop, drop-of-length-le, take-append-drop}
 use lib.Seq.{drop-cons, drop-drop, drop-at, take-add, length-take-le}
 use Rattle.bytes.specs.Bytes.{slice, indexOf}
 use Rattle.rules.proofs.BoolLaws.{and-left, and-right, and-both, and-false}
@@ -22,6 +22,7 @@ use Rattle.frame.specs.Text.{Part, part, partsOf, eachPart}
 use Rattle.frame.specs.declared.judge.Verdict as Code
 use Rattle.frame.specs.Recording.{lower, alike, refusal, Verdict, same, differs, odd}
 use Rattle.frame.specs.Printing.{ofVerdict, verdictCall}
+use Rattle.frame.specs.Blocks.{Same}
 use Rattle.frame.specs.LineCall.{lineInto, LinePromise}
 use Rattle.frame.specs.Reading.{keep, Kept}
 use Rattle.frame.specs.Judging.{Stage, Judging, asking, asked, comparing, parted, judging, next, placeIn, asks, replies, judgeBy, judgePart, judgeText, stageOf, judgingOf, within, fits, judgeCall, verdictBy, Asks, Replies, Answers, JudgePromise}
@@ -96,8 +97,21 @@ pub record AlikeLeft (a b : List ℕ) (i : ℕ) : Type 0 where
   pub within-b : i ≤ length b
   pub same : i + alike (drop i a) (drop i b) ≡ alike a b
 
-pub alike-start : (a b : List ℕ) → AlikeLeft a b 0
-alike-start a b = record { within-a = omega arith; within-b = omega arith; same = zero-add (alike a b) }
+alike-common : (x a b : List ℕ) → alike (x ++ a) (x ++ b) ≡ length x + alike a b
+unfolding alike
+alike-common [] a b = sym (zero-add (alike a b))
+alike-common (c ∷ x) a b = rw (eq-eqb (lower c) (lower c) refl) (omega (arith, alike-common x a b))
+
+-- what is the same as it stands is alike
+pub alike-start : (a b : List ℕ) {n i : ℕ} → n ≤ length a → n ≤ length b → Same a b n 0 i → AlikeLeft a b i
+alike-start a b {n} {i} h k s =
+    let z : i - 0 ≡ i = omega arith in
+    let e : take i a ≡ take i b = rw z at (s .same) in
+    let m = length-take-le i a (omega (arith, s .within)) in
+    let q = alike-common (take i a) (drop i a) (drop i b) in
+    let l = ap (λ (x : List ℕ). alike x (take i a ++ drop i b)) (take-append-drop i a) in
+    let r = ap (alike a) (ap (λ (x : List ℕ). x ++ drop i b) e ∙ take-append-drop i b) in
+    record { within-a = omega (arith, s .within); within-b = omega (arith, s .within); same = omega (arith, m, q, l, r) }
 
 module _ {a b : List ℕ} {i : ℕ} (left : AlikeLeft a b i) where
   module _ (h : i < length a) (k : i < length b) where

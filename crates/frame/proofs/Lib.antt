@@ -1,3 +1,4 @@
+pub mod BlockLaws
 pub mod HexLaws
 pub mod JudgeLaws
 pub mod LineLaws

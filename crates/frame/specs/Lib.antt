@@ -1,3 +1,4 @@
+pub mod Blocks
 pub mod Hex
 pub mod Judging
 pub mod LineCall

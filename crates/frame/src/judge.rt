@@ -11,6 +11,8 @@ ghost use Rattle.frame.specs.Text.{part};
 ghost use Rattle.frame.specs.Recording.{lower as Recording·lower, alike as Recording·alike, refusal};
 ghost use Rattle.frame.specs.Judging.{next as Judging·next, placeIn, Asks, Replies, Answers, judgingOf, judgePart, judgeText, judgeCall, within as Judging·within, fits as Judging·fits, isParted, JudgePromise};
 ghost use Rattle.frame.specs.Printing.{ofVerdict, verdictCall};
+use crate::blocks::line_end;
+use crate::blocks::same_blocks;
 use crate::hex::Request;
 use crate::line::MIN_OUT;
 use crate::line::serve_line;
@@ -81,7 +83,7 @@ fn alike(a: &[u8], b: &[u8]) -> usize
     ensures { λ r. ⌜ r ≡ Recording·alike (now (a .entry)) (now (b .entry)) ⌝ }
 {
     let n = least(a.len(), b.len());
-    let mut i = 0;
+    let mut i = same_blocks(a, b, n);
     while i < n {
         if lower(a[i]) != lower(b[i]) {
             return i;
@@ -223,7 +225,7 @@ fn judge_parts(
     let mut i = 0;
     let mut q = j;
     while i < text.len() {
-        let end = bytes::scan::find(text, i, text.len(), b'\n');
+        let end = line_end(text, i);
         q = judge_part(
             sizes,
             words,

@@ -1,4 +1,5 @@
 // Lines of hexadecimal in, lines out; a recording judged. The rules stand in specs/.
+mod blocks;
 mod hex;
 mod judge;
 mod line;

@@ -7,6 +7,7 @@ ghost use Rattle.tables.specs.Lent.{after, before};
 ghost use Rattle.rules.specs.Line.{answerLine};
 ghost use Rattle.frame.specs.Text.{part, partsOf};
 ghost use Rattle.frame.specs.Reading.{Kept, Answered, reading, readingOf, readPart, readParts, readText, readEnd, ReadPromise};
+use crate::blocks::line_end;
 use crate::hex::Request;
 use crate::line::serve_line;
 
@@ -133,7 +134,7 @@ fn serve_parts(
 {
     let mut p = Progress::new(kept);
     while p.taken < text.len() && Progress::ROOM <= out.len() - p.written {
-        let end = bytes::scan::find(text, p.taken, text.len(), b'\n');
+        let end = line_end(text, p.taken);
         p = serve_part(sizes, words, mem, line, out, text, end, p);
     }
     p

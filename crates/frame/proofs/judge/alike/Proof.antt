@@ -1,5 +1,5 @@
 use Prim.Native.Nat.{_-_}
-use mathlib.Core.Path.{sym, ap, _∙_}
+use mathlib.Core.Path.{sym, _∙_}
 use native.Mathlib.Omega.{arith}
 use Rattle.frame.proofs.JudgeLaws.{AlikeLeft, alike-start, alike-more, alike-stop, alike-end}
 use borrow.Author.Needs.{needs}
@@ -13,7 +13,9 @@ abbrev μ-loop : tie.MeasureT-loop
 μ-loop a b n i₀ i = n - i
 
 loop-holds : tie.Need-loop-holds Inv-loop μ-loop
-loop-holds c = alike-start _ _
+loop-holds c =
+    let m = c .before .least .ensures in
+    alike-start _ _ (omega (arith, m)) (omega (arith, m)) (c .same-blocks .ensures)
 
 shared-slice-read-lower : tie.Need-shared-slice-read-lower Inv-loop μ-loop
 shared-slice-read-lower c = omega arith
@@ -42,11 +44,14 @@ loop-again c =
     alike-more (l .loop .inv) (omega arith) (omega arith) (sym (g .lower .ensures) ∙ c .if1 .left ∙ f .lower2 .ensures)
 
 returns-2 : tie.Need-returns-2 Inv-loop μ-loop
-returns-2 c = alike-end (c .before .loop .inv) (omega (arith, c .loop-test .left, c .before .before .least .ensures))
+returns-2 c =
+    let l = c .before in
+    alike-end (l .loop .inv) (omega (arith, c .loop-test .left, l .before .before .least .ensures))
 
 pub alike-spec : {M : Type 1} → statement M
 alike-spec =
     tie.close
     (tie.spec
-    Inv-loop μ-loop (λ c κs. search needs) loop-holds shared-slice-read-lower (λ c κs. search needs) shared-slice-read-lower-2 (λ c κs. search needs) returns
-    add-i loop-less loop-again returns-2)
+    Inv-loop μ-loop (λ c κs. search needs) (λ c κs. search needs) loop-holds shared-slice-read-lower
+    (λ c κs. search needs) shared-slice-read-lower-2 (λ c κs. search needs) returns add-i loop-less loop-again
+    returns-2)

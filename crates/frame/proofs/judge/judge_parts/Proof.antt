@@ -25,7 +25,7 @@ judge-part-requires c κs =
 loop-less : tie.Need-loop-less Inv-loop μ-loop
 loop-less c =
     let f = c .before .before .before .before .before .before .before .before .before .before .before .before .before .before .before .before .before .before in
-    omega (arith, c .past .ensures, f .find .ensures .0, f .find .ensures .1, f .before .loop-test .taken)
+    omega (arith, c .past .ensures, f .line-end .ensures .0, f .line-end .ensures .1, f .before .loop-test .taken)
 
 loop-again : tie.Need-loop-again Inv-loop μ-loop
 loop-again c =
@@ -33,7 +33,7 @@ loop-again c =
     let f = k .before .before .before .before .before .before .before in
     let l = f .before .before in
     rw (c .past .ensures)
-    (judge-more (l .loop .inv) (f .before .loop-test .taken) (f .find .ensures .0) (f .find .ensures .1)
+    (judge-more (l .loop .inv) (f .before .loop-test .taken) (f .line-end .ensures .0) (f .line-end .ensures .1)
     (k .judge-part .kept .1 .1 .1 .0) (k .judge-part .kept .1 .1 .1 .1 .0) (k .judge-part .kept .0) (k .judge-part .kept .1 .0) (k .judge-part .kept .1 .1 .0)
     (k .judge-part .ensures))
 
@@ -56,7 +56,7 @@ returns : tie.Need-returns Inv-loop μ-loop
 returns c = judge-end (c .before .loop .inv) (c .loop-test .left)
 
 sub-judge-part : tie.Need-sub-judge-part Inv-loop μ-loop
-sub-judge-part c = omega (arith, c .before .before .before .before .before .find .ensures .0)
+sub-judge-part c = omega (arith, c .before .before .before .before .before .line-end .ensures .0)
 
 pub judge-parts-spec : {M : Type 1} → statement M
 judge-parts-spec =

@@ -23,7 +23,7 @@ serve-part-requires c κs =
     let l = f .before .before .before .before .before in
     let i = l .loop .inv in
     let room : 65537 ≤ length (l .loop .out) - l .loop .p .written = leb-true _ _ (f .before .if2 .taken) in
-    (i .few, (omega (arith, i .line-long), (omega (arith, i .fits), (omega (arith, f .find .ensures .0), f .find .ensures .1))))
+    (i .few, (omega (arith, i .line-long), (omega (arith, i .fits), (omega (arith, f .line-end .ensures .0), f .line-end .ensures .1))))
 
 loop-less : tie.Need-loop-less Inv-loop μ-loop
 loop-less c =
@@ -31,7 +31,7 @@ loop-less c =
     let f = k .before .before .before .before .before .before in
     let t = f .before .before .before in
     let l = t .before .before in
-    omega (arith, taken-more (l .loop .inv) (t .if1 .taken) (f .find .ensures .0) (f .find .ensures .1) (k .serve-part .ensures .0), t .if1 .taken)
+    omega (arith, taken-more (l .loop .inv) (t .if1 .taken) (f .line-end .ensures .0) (f .line-end .ensures .1) (k .serve-part .ensures .0), t .if1 .taken)
 
 loop-again : tie.Need-loop-again Inv-loop μ-loop
 loop-again c =
@@ -39,7 +39,7 @@ loop-again c =
     let f = k .before .before .before .before .before .before in
     let t = f .before .before .before in
     let l = t .before .before in
-    read-more (l .loop .inv) (t .if1 .taken) (f .find .ensures .0) (f .find .ensures .1) (k .serve-part .ensures .0)
+    read-more (l .loop .inv) (t .if1 .taken) (f .line-end .ensures .0) (f .line-end .ensures .1) (k .serve-part .ensures .0)
     (leb-true _ _ (f .before .if2 .taken)) (k .serve-part .ensures .1)
     (k .serve-part .kept .0) (k .serve-part .kept .1 .0) (k .serve-part .kept .1 .1 .0) (k .serve-part .kept .1 .1 .1 .0) (k .serve-part .kept .1 .1 .1 .1 .0)
 

@@ -1,3 +1,4 @@
+pub mod AlikeLaws
 pub mod BlockLaws
 pub mod HexLaws
 pub mod JudgeLaws

@@ -1,28 +1,29 @@
 -- A recording judged in pieces of any length has the rules' verdict on its lines, and a difference decides it.
-use Prim.Native.Nat.{ℕ, zero, suc, _+_, _-_, _/_, _≤_, _<_}
+use Prim.Native.Nat.{ℕ, suc, _+_, _-_, _/_, _≤_, _<_}
 use mathlib.Core.Path.{_≡_, refl, sym, ap, _∙_}
 use mathlib.Core.Bool.{Bool, true, false, cond, _&&_, _||_, true≢false}
-use mathlib.Core.Option.{Option, none, some}
-use mathlib.Core.List.{List, [], _∷_, _++_, map, append-nil}
+use mathlib.Core.Option.{some}
+use mathlib.Core.List.{List, [], _∷_, _++_, map}
 use mathlib.Core.Logic.{_≢_}
-use native.Mathlib.Nat.{add-assoc, zero-add, add-zero}
+use native.Mathlib.Nat.{add-assoc, zero-add}
 use native.Mathlib.Omega.{arith}
-use lib.ListN.{length, take, drop, length-append}
-use lib.Seq.{take-all, drop-drop}
+use lib.ListN.{length, drop, length-append}
+use lib.Seq.{drop-drop}
 use lib.Dec.{leb, ltb, eqb}
 use borrow.Author.Tests.{lt-ltb, le-ltb, le-leb, ltb-true, ltb-false, eq-eqb, ne-eqb, eqb-true, eqb-false, leb-true}
 use Rattle.rules.specs.Store.{Store, emptyStore}
-use Rattle.rules.specs.Line.{frameGeometry, Line, requestOf, answerLine}
-use Rattle.rules.proofs.BoolLaws.{and-left, and-right, and-both, and-false}
+use Rattle.rules.specs.Line.{frameGeometry, Line, answerLine}
+use Rattle.rules.proofs.BoolLaws.{and-left, and-both, and-false}
 use Rattle.frame.specs.declared.judge.Step.{Step}
 use Rattle.frame.specs.declared.judge.Judge.{Judge}
-use Rattle.frame.specs.Text.{Part, part, inFront, partsOf, linesOf, eachPart}
+use Rattle.frame.specs.Text.{Part, part, partsOf, linesOf, eachPart}
 use Rattle.frame.specs.Reading.{keep}
 use Rattle.frame.specs.Recording.{lower, alike, sameLine, refusal, bytePlace, Verdict, same, differs, odd, verdictFrom, verdict}
-use Rattle.frame.specs.Judging.{Stage, asking, asked, comparing, parted, Judging, judging, next, placeIn, asks, replyEnds, repliesBy, replies, judgeBy, judgePart, judgeText, verdictBy, verdictOf, stageOf, judgingOf, within, fits, judgeCall, JudgePromise}
+use Rattle.frame.specs.Judging.{Stage, asking, asked, comparing, parted, Judging, judging, next, placeIn, asks, repliesBy, replies, judgeBy, judgePart, judgeText, verdictBy, verdictOf, stageOf, judgingOf, fits, judgeCall, JudgePromise}
 use Rattle.frame.specs.Printing.{verdictCall}
 use Rattle.frame.proofs.TextLaws.{pieces, keep-keep, answer-keep, keep-some, Proper, parts-proper, parts-few}
-use Rattle.frame.proofs.JudgeLaws.{alike-le, alike-le-right, alike-parted, alike-on, fits-step}
+use Rattle.frame.proofs.AlikeLaws.{alike-le, alike-le-right, alike-parted, alike-on}
+use Rattle.frame.proofs.JudgeLaws.{fits-step}
 
 -- ---- a line's parts
 
@@ -58,12 +59,6 @@ pub judge-joins : (j : Judging) (a b : List ℕ) (e : Bool) → judgePart (judge
 unfolding judgePart
 judge-joins j a b e = go (j .stage)
   where
-    st : Store
-    st = j .store
-
-    n : ℕ
-    n = j .pairs
-
     go : (s : Stage) → judgePart (judgeBy (j .store) (j .pairs) s (part a false)) (part b e) ≡ judgeBy (j .store) (j .pairs) s (part (a ++ b) e)
     go (asking l) = asks-joins (j .store) (j .pairs) l a b e
     go (asked l) = replies-joins (answerLine (j .store) l .store) (j .pairs) (answerLine (j .store) l .line) 0 a b e

@@ -1,14 +1,14 @@
 -- A text served in calls of any length, with any room, has the rules' answers to its lines, in order.
 use Prim.Native.Nat.{ℕ, zero, suc, _+_, _-_, _≤_, _<_}
 use mathlib.Core.Path.{_≡_, refl, sym, ap, subst, _∙_}
-use mathlib.Core.Bool.{Bool, true, false, cond, _||_}
+use mathlib.Core.Bool.{Bool, true, false, cond}
 use mathlib.Core.List.{List, [], _∷_, _++_, map, append-assoc, append-nil}
 use native.Mathlib.Nat.{sub-zero}
 use native.Mathlib.Omega.{arith}
 use lib.ListN.{length, take, drop, length-append, length-take, length-drop, drop-of-length-le}
 use lib.Seq.{drop-nil, drop-drop, length-take-le}
 use lib.Dec.{ltb, eqb}
-use borrow.Author.Tests.{lt-ltb, le-ltb, ltb-true, ltb-false, ne-eqb}
+use borrow.Author.Tests.{le-ltb, ltb-true, ltb-false, ne-eqb}
 use Rattle.xdr.specs.Encode.{concatMap}
 use Rattle.bytes.specs.Bytes.{indexAfter, indexOf}
 use Rattle.rules.specs.Store.{Store}
@@ -16,7 +16,7 @@ use Rattle.rules.specs.Line.{Line, answerLine, answerLines}
 use Rattle.frame.specs.declared.text.Progress.{Progress}
 use Rattle.frame.specs.Text.{Part, part, partsOf, linesOf, eachPart}
 use Rattle.frame.specs.Reading.{keep, Reading, reading, goesOn, endsWith, readPart, readParts, readText, readEnd, ReadPromise}
-use Rattle.frame.proofs.TextLaws.{First, parts-first, pieces, keep-keep, answer-keep, keep-some, length-keep, Proper, parts-proper}
+use Rattle.frame.proofs.TextLaws.{parts-first, pieces, keep-keep, answer-keep, keep-some, Proper, parts-proper}
 
 -- a line that was begun ends where the text does
 abbrev pub ended : Reading → List ℕ → Reading

@@ -1,13 +1,12 @@
 -- A recording judged as its text comes. Contracts cite these.
-use Prim.Native.Nat.{ℕ, _+_, _/_, _≤_}
+use Prim.Native.Nat.{ℕ, _+_, _/_}
 use mathlib.Core.Path.{_≡_}
 use mathlib.Core.Bool.{Bool, true, false, cond, _&&_}
-use mathlib.Core.Option.{Option, none, some}
-use mathlib.Core.List.{List, [], _∷_, _++_}
+use mathlib.Core.List.{List, [], _∷_}
 use lib.ListN.{length, take, drop}
-use lib.Dec.{ltb, leb, eqb}
+use lib.Dec.{ltb, leb}
 use Rattle.rules.specs.Store.{Store}
-use Rattle.rules.specs.Line.{Line, answerLine}
+use Rattle.rules.specs.Line.{answerLine}
 use Rattle.frame.specs.declared.judge.Step.{Step}
 use Rattle.frame.specs.declared.judge.Judge.{Judge}
 use Rattle.frame.specs.Text.{Part, partsOf, eachPart}

@@ -15,6 +15,7 @@ pub use judge::Verdict;
 pub use judge::decided;
 pub use judge::judge_text;
 pub use judge::judged;
+pub use line::Frame;
 pub use line::MIN_OUT;
 pub use line::frame_geometry;
 pub use line::serve_line;

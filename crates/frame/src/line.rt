@@ -17,7 +17,18 @@ use tables::Geometry;
 // Room for every answer's line.
 pub const MIN_OUT: usize = 65536;
 
-// The store that the program's lines are served on.
+// The store that the programs' lines are served on: F 4, S 16, N 32, B 512.
+pub struct Frame {}
+
+impl Frame {
+    // Its tables.
+    pub const SIZES: usize = 4;
+
+    pub const WORDS: usize = 64;
+
+    pub const MEMORY: usize = 16384;
+}
+
 pub fn frame_geometry() -> Geometry
     ensures { λ r. ⌜ geometryOf r ≡ frameGeometry ⌝ }
 {

@@ -3,6 +3,7 @@
 ghost use mathlib.Core.Path.{_≡_};
 ghost use Prim.Native.Nat.{_≤_};
 ghost use lib.ListN.{length};
+use frame::Frame;
 use frame::Request;
 use libc::STDIN_FILENO;
 use libc::STDOUT_FILENO;
@@ -14,12 +15,6 @@ struct State {
 }
 
 impl State {
-    // The program's store: F 4, S 16, N 32, B 512.
-    const SIZES: usize = 4;
-
-    const WORDS: usize = 64;
-
-    const MEMORY: usize = 16384;
     // Bytes of input read at a time, and room for answers.
     const INPUT: usize = 65536;
 
@@ -141,9 +136,9 @@ fn serve_all(
 
 // The store is empty: its tables are zero.
 fn main() {
-    let mut sizes = [0u64; State::SIZES];
-    let mut words = [0u32; State::WORDS];
-    let mut mem = [0u8; State::MEMORY];
+    let mut sizes = [0u64; Frame::SIZES];
+    let mut words = [0u32; Frame::WORDS];
+    let mut mem = [0u8; Frame::MEMORY];
     let mut line = [0u8; Request::KEPT];
     let mut out = [0u8; State::ANSWERS];
     let mut input = [0u8; State::INPUT];

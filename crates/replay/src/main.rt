@@ -1,25 +1,14 @@
 // Reads a recording, a request's line and a reply's line by turns, runs the requests on the program's store and says whether
 // the replies are the same: `same N`, `PAIR PLACE` or `odd N`. At the first difference it reads no further.
-ghost use Prim.Native.Nat.{_≤_};
-ghost use lib.ListN.{length};
+use frame::Frame;
 use frame::Judge;
 use frame::Request;
 use frame::Verdict;
 use libc::STDIN_FILENO;
 use libc::STDOUT_FILENO;
 
-struct Size {}
-
-impl Size {
-    // The program's store: F 4, S 16, N 32, B 512.
-    const SIZES: usize = 4;
-
-    const WORDS: usize = 64;
-
-    const MEMORY: usize = 16384;
-    // Bytes of input read at a time.
-    const INPUT: usize = 65536;
-}
+// Bytes of input read at a time.
+const INPUT: usize = 65536;
 
 // What a read of more of the recording answers; 0 where nothing more is wanted.
 fn read_on(input: &mut [u8], j: Judge) -> isize {
@@ -67,12 +56,12 @@ fn judge_all(
 
 // The store is empty: its tables are zero.
 fn main() {
-    let mut sizes = [0u64; Size::SIZES];
-    let mut words = [0u32; Size::WORDS];
-    let mut mem = [0u8; Size::MEMORY];
+    let mut sizes = [0u64; Frame::SIZES];
+    let mut words = [0u32; Frame::WORDS];
+    let mut mem = [0u8; Frame::MEMORY];
     let mut line = [0u8; Request::KEPT];
     let mut out = [0u8; frame::MIN_OUT];
-    let mut input = [0u8; Size::INPUT];
+    let mut input = [0u8; INPUT];
     judge_all(
         &mut sizes,
         &mut words,

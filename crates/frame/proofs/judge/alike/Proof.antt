@@ -1,7 +1,7 @@
 use Prim.Native.Nat.{_-_}
 use mathlib.Core.Path.{sym, _∙_}
 use native.Mathlib.Omega.{arith}
-use Rattle.frame.proofs.JudgeLaws.{AlikeLeft, alike-start, alike-more, alike-stop, alike-end}
+use Rattle.frame.proofs.AlikeLaws.{AlikeLeft, alike-start, alike-more, alike-stop, alike-end}
 use borrow.Author.Needs.{needs}
 use Rattle.frame.proofs.judge.alike.Statement.{statement}
 use Rattle.frame.proofs.judge.alike.Tie as tie

@@ -1,5 +1,5 @@
 use native.Mathlib.Omega.{arith}
-use Rattle.frame.proofs.JudgeLaws.{lower-letter, lower-below, lower-above}
+use Rattle.frame.proofs.AlikeLaws.{lower-letter, lower-below, lower-above}
 use borrow.Author.Needs.{needs}
 use Rattle.frame.proofs.judge.lower.Statement.{statement}
 use Rattle.frame.proofs.judge.lower.Tie as tie

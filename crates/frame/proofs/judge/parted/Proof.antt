@@ -1,4 +1,3 @@
-use mathlib.Core.Path.{sym, ap}
 use borrow.Author.Needs.{needs}
 use Rattle.frame.proofs.judge.parted.Statement.{statement}
 use Rattle.frame.proofs.judge.parted.Tie as tie

@@ -1,4 +1,4 @@
-use Rattle.frame.proofs.JudgeLaws.{place-empty, place-refusal, place-digits}
+use Rattle.frame.proofs.AlikeLaws.{place-empty, place-refusal, place-digits}
 use borrow.Author.Needs.{needs}
 use Rattle.frame.proofs.judge.place_in.Statement.{statement}
 use Rattle.frame.proofs.judge.place_in.Tie as tie

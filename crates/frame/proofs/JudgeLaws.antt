@@ -1,7 +1,7 @@
 -- Laws on a recording that is judged: one for each way out of the functions on a part, a text and its end.
 use Prim.Native.Nat.{ℕ, zero, suc, _+_, _-_, _≤_, _<_, min}
 use mathlib.Core.Path.{_≡_, refl, sym, ap, _∙_}
-use mathlib.Core.Bool.{Bool, true, false, cond, _&&_}
+use mathlib.Core.Bool.{Bool, true, false, cond, _&&_, true≢false}
 use mathlib.Core.Option.{none, some}
 use mathlib.Core.List.{List, [], _∷_}
 use native.Mathlib.Omega.{arith}
@@ -22,7 +22,7 @@ use Rattle.frame.specs.Printing.{ofVerdict, verdictCall}
 use Rattle.frame.specs.Blocks.{Same}
 use Rattle.frame.specs.LineCall.{lineInto, LinePromise}
 use Rattle.frame.specs.Reading.{Kept}
-use Rattle.frame.specs.Judging.{Judging, asking, asked, comparing, parted, judging, next, placeIn, asks, replies, judgeBy, judgePart, judgeText, stageOf, judgingOf, within, fits, judgeCall, verdictBy, Asks, Replies, Answers, JudgePromise}
+use Rattle.frame.specs.Judging.{Judging, asking, asked, comparing, parted, judging, next, placeIn, asks, replies, judgeBy, judgePart, judgeText, stageOf, judgingOf, within, fits, judgeCall, verdictBy, Asks, Replies, Answers, JudgePromise, Untouched}
 use Rattle.frame.proofs.AlikeLaws.{alike-le}
 use Rattle.frame.proofs.LineLaws.{store-is, line-written}
 use Rattle.frame.proofs.TextLaws.{parts-next}
@@ -229,6 +229,14 @@ module _ (j : Judge) (line out t : List ℕ) (st : Store) where
       → JudgePromise (judgeText (judgingOf j line out st) t) j r line₁ out₁ st₁ → JudgePromise (judgeCall j line out st t) j r line₁ out₁ st₁
   unfolding judgeCall
   call-fits f p = record { judging-is = rw f (p .judging-is); within-is = p .within-is }
+
+-- nothing is said of what stays where they fit
+pub untouched : (j : Judge) (line out : List ℕ) {r : Judge} {line₁ out₁ : List ℕ} → fits j line out ≡ true → Untouched (fits j line out) j r line line₁ out out₁
+untouched j line out f = record {
+  judge-is = λ e. absurd (true≢false (sym f ∙ e));
+  line-is = λ e. absurd (true≢false (sym f ∙ e));
+  out-is = λ e. absurd (true≢false (sym f ∙ e));
+}
 
 -- ---- the end of the text
 

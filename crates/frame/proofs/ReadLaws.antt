@@ -1,7 +1,7 @@
 -- Laws on a text served as it comes: an answer written, a part of a line taken, and the parts one after the other.
 use Prim.Native.Nat.{ℕ, _+_, _-_, _≤_, _<_, min}
 use mathlib.Core.Path.{_≡_, refl, sym, ap, _∙_}
-use mathlib.Core.Bool.{Bool, true, false, cond}
+use mathlib.Core.Bool.{Bool, true, false, cond, true≢false}
 use mathlib.Core.List.{List, [], _∷_, _++_, append-assoc}
 use mathlib.Core.Logic.{_≢_}
 use native.Mathlib.Omega.{arith}
@@ -18,7 +18,7 @@ use Rattle.rules.specs.Line.{Line, answerLine}
 use Rattle.frame.specs.declared.text.Progress.{Progress}
 use Rattle.frame.specs.LineCall.{lineInto, LinePromise}
 use Rattle.frame.specs.Text.{Part, part, partsOf}
-use Rattle.frame.specs.Reading.{keep, Reading, reading, goesOn, endsWith, readPart, readParts, readText, readEnd}
+use Rattle.frame.specs.Reading.{keep, Reading, reading, goesOn, endsWith, readPart, readParts, unready, readText, readEnd}
 use Rattle.frame.specs.Reading.{readingOf, ReadPromise, Kept, Answered}
 use Rattle.frame.proofs.LineLaws.{line-fits, store-is}
 use Rattle.frame.proofs.PrintLaws.{text-written, char-written}
@@ -264,6 +264,12 @@ module _ {st₀ : Store} {line₀ out₀ text : List ℕ} {kept : ℕ} {st : Sto
 
 -- ---- the calls
 
+pub not-unready : (line : List ℕ) (kept : ℕ) → 8193 ≤ length line → kept ≤ 8193 → unready line kept ≢ true
+unfolding unready
+not-unready line kept h k e =
+    let z : false ≡ true = rw (le-ltb (length line) 8193 h, le-ltb 8193 kept k) at e in
+    true≢false (sym z)
+
 module _ (line : List ℕ) (kept : ℕ) (out : List ℕ) (st : Store) (t : List ℕ) {r : Progress} where
   module _ {n : ℕ} (e : n ≡ min kept (length line)) (q : r ≡ record { taken = 0; kept = n; written = 0 }) where
     refused : readText line kept out st t ≡ reading st (take kept line) → ReadPromise (readText line kept out st t) r line out out st
@@ -271,17 +277,17 @@ module _ (line : List ℕ) (kept : ℕ) (out : List ℕ) (st : Store) (t : List 
         rw (w, q, e) (record { reading-is = alike refl (take-min kept line) refl refl; kept-fits = omega arith; written-fits = omega arith; rest-is = refl })
 
     pub line-short : length line < 8193 → ReadPromise (readText line kept out st t) r line out out st
-    unfolding readText
+    unfolding readText unready
     line-short h = refused (rw (lt-ltb (length line) 8193 h))
 
     pub kept-many : 8193 ≤ length line → 8193 < kept → ReadPromise (readText line kept out st t) r line out out st
-    unfolding readText
+    unfolding readText unready
     kept-many h k = refused (rw (le-ltb (length line) 8193 h, lt-ltb 8193 kept k))
 
   pub text-served : {line′ out′ : List ℕ} {left : Store} → 8193 ≤ length line → kept ≤ 8193
       → ReadPromise (readParts (length out) (reading st (take kept line)) (partsOf t)) r line′ out out′ left
       → ReadPromise (readText line kept out st t) r line′ out out′ left
-  unfolding readText
+  unfolding readText unready
   text-served h k w = rw (le-ltb (length line) 8193 h, le-ltb 8193 kept k) w
 
 module _ (line : List ℕ) (kept : ℕ) (out : List ℕ) (st : Store) {r : Progress} where

@@ -15,7 +15,7 @@ use Rattle.rules.specs.Store.{Store}
 use Rattle.rules.specs.Line.{Line, answerLine, answerLines}
 use Rattle.frame.specs.declared.text.Progress.{Progress}
 use Rattle.frame.specs.Text.{Part, part, partsOf, linesOf, eachPart}
-use Rattle.frame.specs.Reading.{keep, Reading, reading, goesOn, endsWith, readPart, readParts, readText, readEnd, ReadPromise}
+use Rattle.frame.specs.Reading.{keep, Reading, reading, goesOn, endsWith, readPart, readParts, unready, readText, readEnd, ReadPromise}
 use Rattle.frame.proofs.TextLaws.{parts-first, pieces, keep-keep, answer-keep, keep-some, Proper, parts-proper}
 
 -- a line that was begun ends where the text does
@@ -188,7 +188,7 @@ module _ (line : List ℕ) (kept : ℕ) (out : List ℕ) (st : Store) (h : 8193 
   began = reading st (take kept line)
 
   text-is : (t : List ℕ) → readText line kept out st t ≡ readParts (length out) began (partsOf t)
-  unfolding readText
+  unfolding readText unready
   text-is t = rw (le-ltb (length line) 8193 h, le-ltb 8193 kept g)
 
   -- what a call writes, and the answers to what it leaves of the text and to any that follows, are the answers to the text

@@ -120,6 +120,12 @@ pub record JudgePromise (want : Judging) (j r : Judge) (line out : List ℕ) (le
   pub judging-is : judgingOf r line out left ≡ want
   pub within-is : within (r .step) ≡ within (j .step)
 
+-- where the numbers don't fit the free parts stay too
+pub record Untouched (fit : Bool) (j r : Judge) (line line′ out out′ : List ℕ) : Type 0 where
+  pub judge-is : fit ≡ false → r ≡ j
+  pub line-is : fit ≡ false → line′ ≡ line
+  pub out-is : fit ≡ false → out′ ≡ out
+
 -- ---- what functions on a part promise
 
 -- the request's line l goes on in `line`; `out` and the store are others' business

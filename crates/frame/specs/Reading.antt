@@ -1,7 +1,7 @@
 -- The lines of a text served as it comes. Contracts cite these.
 use Prim.Native.Nat.{ℕ, _+_, _≤_}
 use mathlib.Core.Path.{_≡_}
-use mathlib.Core.Bool.{cond, _||_}
+use mathlib.Core.Bool.{Bool, true, cond, _||_}
 use mathlib.Core.List.{List, [], _∷_, _++_}
 use lib.ListN.{length, take, drop}
 use lib.Dec.{ltb, eqb}
@@ -40,11 +40,14 @@ unfoldable pub readParts : ℕ → Reading → List Part → Reading
 readParts room r [] = r
 readParts room r (p ∷ ps) = cond (ltb room (length (r .answers) + 65537)) r (readParts room (readPart r p) ps)
 
--- The call on a text, with `kept` characters of a line at the start of `line`. Where `line` is too short or more are kept than it
--- may have, nothing is taken (house).
+-- `line` is too short, or keeps more than there may be
+unfoldable pub unready : List ℕ → ℕ → Bool
+unready line kept = ltb (length line) 8193 || ltb 8193 kept
+
+-- The call on a text, with `kept` characters of a line at the start of `line`. Where that is not ready, nothing is taken (house).
 unfoldable pub readText : List ℕ → ℕ → List ℕ → Store → List ℕ → Reading
 readText line kept out st t =
-    cond (ltb (length line) 8193 || ltb 8193 kept) (reading st (take kept line)) (readParts (length out) (reading st (take kept line)) (partsOf t))
+    cond (unready line kept) (reading st (take kept line)) (readParts (length out) (reading st (take kept line)) (partsOf t))
 
 -- the end of the text ends the line that was begun
 unfoldable pub readEnd : List ℕ → ℕ → List ℕ → Store → Reading
@@ -56,12 +59,15 @@ readEnd line kept out st = cond (eqb kept 0) (reading st []) (readText line kept
 abbrev pub readingOf : Progress → List ℕ → List ℕ → Store → Reading
 readingOf p line out st = record { store = st; line = take (p .kept) line; answers = take (p .written) out; taken = p .taken }
 
--- Free is what `line` has behind the characters kept: only its length stays.
+-- Free is what `line` has behind the characters kept: only its length stays. A call that takes nothing, as `line` is not ready, leaves that too.
 pub record ReadPromise (want : Reading) (r : Progress) (line out after : List ℕ) (left : Store) : Type 0 where
   pub reading-is : readingOf r line after left ≡ want
   pub kept-fits : r .kept ≤ length line
   pub written-fits : r .written ≤ length out
   pub rest-is : drop (r .written) after ≡ drop (r .written) out
+
+abbrev pub Stays : Bool → List ℕ → List ℕ → Type 0
+Stays t line after = t ≡ true → after ≡ line
 
 -- the characters kept of a line, when a part is added
 pub record Kept (l t : List ℕ) (r : ℕ) (line : List ℕ) : Type 0 where

@@ -9,7 +9,7 @@ use Rattle.rules.specs.Line.{digit, frameGeometry, answerLine}
 
 -- ---- two reply lines
 
--- a letter of a digit, A to F, in lower case
+-- a digit's letter, A to F, in lower case
 abbrev pub lower : ℕ → ℕ
 lower c = cond (leb 65 c && leb c 70) (c + 32) c
 

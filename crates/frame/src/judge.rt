@@ -9,7 +9,7 @@ ghost use lib.ListN.{length, take};
 ghost use Rattle.tables.specs.Lent.{after, before};
 ghost use Rattle.frame.specs.Text.{part};
 ghost use Rattle.frame.specs.Recording.{lower as Recording·lower, alike as Recording·alike};
-ghost use Rattle.frame.specs.Judging.{next as Judging·next, placeIn, Asks, Replies, Answers, judgingOf, judgePart, judgeText, judgeCall, within as Judging·within, fits as Judging·fits, isParted, JudgePromise};
+ghost use Rattle.frame.specs.Judging.{next as Judging·next, placeIn, Asks, Replies, Answers, judgingOf, judgePart, judgeText, judgeCall, within as Judging·within, fits as Judging·fits, isParted, JudgePromise, Untouched};
 ghost use Rattle.frame.specs.Printing.{ofVerdict, verdictCall};
 use crate::blocks::line_end;
 use crate::blocks::same_blocks;
@@ -63,7 +63,7 @@ impl Judge {
 }
 
 // The next number; 2^64 - 1 stays.
-pub fn next(n: u64) -> u64
+fn next(n: u64) -> u64
     ensures { λ r. ⌜ r ≡ Judging·next n ⌝ }
 {
     if n < u64::MAX { n + 1 } else { n }
@@ -94,7 +94,7 @@ fn alike(a: &[u8], b: &[u8]) -> usize
 }
 
 // The byte where a line parts from the answer after n characters; 0 where the answer is a refusal.
-pub fn place_in(answer: &[u8], n: usize) -> usize
+fn place_in(answer: &[u8], n: usize) -> usize
     ensures { λ r. ⌜ r ≡ placeIn (now (answer .entry)) n ⌝ }
 {
     if answer.len() == 0 {
@@ -207,6 +207,7 @@ fn judge_part(
     }
 }
 
+// Part after part.
 fn judge_parts(
     sizes: &mut [u64],
     words: &mut [u32],
@@ -241,6 +242,7 @@ fn judge_parts(
     q
 }
 
+// The numbers lie within the line and the answer.
 fn within(step: Step) -> bool
     ensures { λ r. ⌜ r ≡ Judging·within step ⌝ }
 {
@@ -252,8 +254,8 @@ fn within(step: Step) -> bool
     }
 }
 
-// The buffers have room for a line and an answer, and the numbers lie within them.
-pub fn fits(j: Judge, line: &[u8], out: &[u8]) -> bool
+// The same, and the buffers have room for a line and an answer.
+fn fits(j: Judge, line: &[u8], out: &[u8]) -> bool
     ensures { λ r. ⌜ r ≡ Judging·fits j (now (line .entry)) (now (out .entry)) ⌝ }
 {
     if line.len() < Request::KEPT {
@@ -281,6 +283,8 @@ pub fn judge_text(
         (judgeCall j (now (line .entry)) (now (out .entry)) (before sizes words mem) (now (text .entry)))
         j r (now (line .exit)) (now (out .exit))
         (after sizes words mem) ⌝ }
+    ensures { λ r. ⌜ Untouched (Judging·fits j (now (line .entry)) (now (out .entry))) j r
+        (now (line .entry)) (now (line .exit)) (now (out .entry)) (now (out .exit)) ⌝ }
 {
     if !fits(j, line, out) {
         return j;
@@ -301,6 +305,7 @@ pub fn decided(j: Judge) -> bool
     }
 }
 
+// The end in a request's line, or before it begins.
 fn asking(kept: usize, pairs: u64) -> Verdict
     ensures { λ r. ⌜ r ≡ cond (eqb kept 0) (Verdict.Same pairs) (Verdict.Odd (Judging·next pairs)) ⌝ }
 {
@@ -310,6 +315,7 @@ fn asking(kept: usize, pairs: u64) -> Verdict
     Verdict::Odd(next(pairs))
 }
 
+// The end in a reply's line, of which `at` characters came.
 fn comparing(answer: &[u8], at: usize, pairs: u64) -> Verdict
     ensures { λ r. ⌜ r ≡ cond (ltb at (length (now (answer .entry))))
         (Verdict.Differs (Judging·next pairs) (placeIn (now (answer .entry)) at)) (Verdict.Same (Judging·next pairs)) ⌝ }

@@ -6,7 +6,7 @@ ghost use lib.Dec.{ltb};
 ghost use Rattle.tables.specs.Lent.{after, before};
 ghost use Rattle.rules.specs.Line.{answerLine};
 ghost use Rattle.frame.specs.Text.{part, partsOf};
-ghost use Rattle.frame.specs.Reading.{Kept, Answered, reading, readingOf, readPart, readParts, readText, readEnd, ReadPromise};
+ghost use Rattle.frame.specs.Reading.{Kept, Answered, reading, readingOf, readPart, readParts, unready, readText, readEnd, ReadPromise, Stays};
 use crate::blocks::line_end;
 use crate::hex::Request;
 use crate::line::serve_line;
@@ -156,6 +156,7 @@ pub fn serve_text(
         (readText (now (line .entry)) kept (now (out .entry)) (before sizes words mem) (now (text .entry)))
         r (now (line .exit)) (now (out .entry)) (now (out .exit))
         (after sizes words mem) ⌝ }
+    ensures { λ r. ⌜ Stays (unready (now (line .entry)) kept) (now (line .entry)) (now (line .exit)) ⌝ }
 {
     if line.len() < Request::KEPT {
         return Progress::new(least(kept, line.len()));
@@ -179,6 +180,7 @@ pub fn serve_end(
         (readEnd (now (line .entry)) kept (now (out .entry)) (before sizes words mem))
         r (now (line .exit)) (now (out .entry)) (now (out .exit))
         (after sizes words mem) ⌝ }
+    ensures { λ r. ⌜ Stays (unready (now (line .entry)) kept) (now (line .entry)) (now (line .exit)) ⌝ }
 {
     if kept == 0 {
         return Progress::new(0);

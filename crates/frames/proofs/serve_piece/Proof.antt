@@ -23,12 +23,12 @@ add-i c =
     let a = l .before .before .before .before .before .before .before .before in
     let v = l .loop .inv in
     let long = mid-len (l .loop .i) (length (a .args .piece .now)) (a .args .piece .now) (omega arith) in
-    omega (arith, call-within _ _ _ _ _ (k .serve-text .ensures) (omega (arith, v .1 .1 .1 .0, a .pre .0)) (v .1 .1 .1 .1 .1 .0), long)
+    omega (arith, call-within _ _ _ _ _ (k .serve-text .ensures .0) (omega (arith, v .1 .1 .1 .0, a .pre .0)) (v .1 .1 .1 .1 .1 .0), long)
 
 write-requires : tie.Need-write-requires Inv-loop μ-loop
 write-requires c κs =
     let k = c .before .before .before .before .before .before .before .before .before .before .before .before in
-    omega (arith, k .serve-text .ensures .written-fits, k .serve-text .kept .1 .1 .1 .1 .0)
+    omega (arith, k .serve-text .ensures .0 .written-fits, k .serve-text .kept .1 .1 .1 .1 .0)
 
 loop-less : tie.Need-loop-less Inv-loop μ-loop
 loop-less c =
@@ -38,7 +38,7 @@ loop-less c =
     let v = l .loop .inv in
     let long = mid-len (l .loop .i) (length (a .args .piece .now)) (a .args .piece .now) (omega arith) in
     let t = c .before .before .before .before .before .before .before .before .before .before .before .before .before .before .before .before .before .before .before .before .before .loop-test .taken in
-    omega (arith, call-within _ _ _ _ _ (k .serve-text .ensures) (omega (arith, v .1 .1 .1 .0, a .pre .0)) (v .1 .1 .1 .1 .1 .0), call-moves _ _ _ _ _ (k .serve-text .ensures) (omega (arith, v .1 .1 .1 .0, a .pre .0)) (v .1 .1 .1 .1 .1 .0) (omega (arith, v .1 .1 .1 .1 .0, a .pre .1 .0)) (omega (arith, long, t)), long, t)
+    omega (arith, call-within _ _ _ _ _ (k .serve-text .ensures .0) (omega (arith, v .1 .1 .1 .0, a .pre .0)) (v .1 .1 .1 .1 .1 .0), call-moves _ _ _ _ _ (k .serve-text .ensures .0) (omega (arith, v .1 .1 .1 .0, a .pre .0)) (v .1 .1 .1 .1 .1 .0) (omega (arith, v .1 .1 .1 .1 .0, a .pre .1 .0)) (omega (arith, long, t)), long, t)
 
 loop-again : tie.Need-loop-again Inv-loop μ-loop
 loop-again c =
@@ -57,7 +57,7 @@ loop-again c =
             q .1 .1 .1 .0 ∙ v .1 .1 .1 .0,
             (
               q .1 .1 .1 .1 .0 ∙ v .1 .1 .1 .1 .0,
-              (omega (arith, k .serve-text .ensures .kept-fits, q .1 .1 .1 .0, v .1 .1 .1 .0, a .pre .0), omega (arith, call-within _ _ _ _ _ (k .serve-text .ensures) (omega (arith, v .1 .1 .1 .0, a .pre .0)) (v .1 .1 .1 .1 .1 .0), long)),
+              (omega (arith, k .serve-text .ensures .0 .kept-fits, q .1 .1 .1 .0, v .1 .1 .1 .0, a .pre .0), omega (arith, call-within _ _ _ _ _ (k .serve-text .ensures .0) (omega (arith, v .1 .1 .1 .0, a .pre .0)) (v .1 .1 .1 .1 .1 .0), long)),
             ),
           ),
         ),

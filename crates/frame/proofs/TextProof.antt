@@ -1,12 +1,12 @@
 -- A text served in calls of any length, with any room, has the rules' answers to its lines, in order.
 use Prim.Native.Nat.{ℕ, zero, suc, _+_, _-_, _≤_, _<_}
 use mathlib.Core.Path.{_≡_, refl, sym, ap, subst, _∙_}
-use mathlib.Core.Bool.{Bool, true, false, cond}
+use mathlib.Core.Bool.{Bool, true, false, cond, true≢false}
 use mathlib.Core.List.{List, [], _∷_, _++_, map, append-assoc, append-nil}
 use native.Mathlib.Nat.{sub-zero}
 use native.Mathlib.Omega.{arith}
 use lib.ListN.{length, take, drop, length-append, length-take, length-drop, drop-of-length-le}
-use lib.Seq.{drop-nil, drop-drop, length-take-le}
+use lib.Seq.{drop-nil, drop-drop, length-take-le, take-all}
 use lib.Dec.{ltb, eqb}
 use borrow.Author.Tests.{le-ltb, ltb-true, ltb-false, ne-eqb}
 use Rattle.xdr.specs.Encode.{concatMap}
@@ -15,7 +15,7 @@ use Rattle.rules.specs.Store.{Store}
 use Rattle.rules.specs.Line.{Line, answerLine, answerLines}
 use Rattle.frame.specs.declared.text.Progress.{Progress}
 use Rattle.frame.specs.Text.{Part, part, partsOf, linesOf, eachPart}
-use Rattle.frame.specs.Reading.{keep, Reading, reading, goesOn, endsWith, readPart, readParts, unready, readText, readEnd, ReadPromise}
+use Rattle.frame.specs.Reading.{keep, Reading, reading, goesOn, endsWith, readPart, readParts, unready, readText, readEnd, ReadPromise, Taken}
 use Rattle.frame.proofs.TextLaws.{parts-first, pieces, keep-keep, answer-keep, keep-some, Proper, parts-proper}
 
 -- a line that was begun ends where the text does
@@ -242,6 +242,57 @@ module _ (line : List ℕ) (kept : ℕ) (out : List ℕ) (st : Store) (t : List 
 
   pub call-moves : 65537 ≤ length out → 0 < length t → 0 < r .taken
   call-moves room some = omega (arith, ap (λ x. x .taken) (w .reading-is), text-moves line kept out st h g t room some)
+
+-- ---- a text taken in several calls
+
+-- the same store and line, whatever was answered and taken before
+abbrev pub Alike : Reading → Reading → Type 0
+Alike r q = (r .store ≡ q .store) × (r .line ≡ q .line)
+
+part-alike : (p : Part) (r q : Reading) → Alike r q → Alike (readPart r p) (readPart q p)
+unfolding readPart
+part-alike p r q a = by (p .ended)
+  where
+    by : (e : Bool) → Alike (stepBy r (p .text) e) (stepBy q (p .text) e)
+    by true =
+        (ap (λ x. answerLine x (keep (r .line) (p .text)) .store) (a .0) ∙ ap (λ (l : List ℕ). answerLine (q .store) (keep l (p .text)) .store) (a .1), refl)
+    by false = (a .0, ap (λ (l : List ℕ). keep l (p .text)) (a .1))
+
+parts-alike : (ps : List Part) (r q : Reading) → Alike r q → Alike (eachPart readPart r ps) (eachPart readPart q ps)
+unfolding eachPart
+parts-alike [] r q a = a
+parts-alike (p ∷ ps) r q a = parts-alike ps (readPart r p) (readPart q p) (part-alike p r q a)
+
+-- what follows place i takes a piece to its end
+abbrev pub TakenTo : Store → List ℕ → List ℕ → Store → List ℕ → ℕ → Type 0
+TakenTo st₀ l₀ piece st l i = Alike (eachPart readPart (reading st l) (partsOf (drop i piece))) (eachPart readPart (reading st₀ l₀) (partsOf piece))
+
+pub taken-start : (st : Store) (l piece : List ℕ) → TakenTo st l piece st l 0
+taken-start st l piece = (refl, refl)
+
+module _ (st₀ : Store) (l₀ piece : List ℕ) (line : List ℕ) (kept : ℕ) (out : List ℕ) (st : Store) (i : ℕ) {r : Progress} {line′ out′ : List ℕ} {left : Store}
+    (w : ReadPromise (readText line kept out st (take (length piece - i) (drop i piece))) r line′ out out′ left) (h : 8193 ≤ length line) (g : kept ≤ 8193) where
+  pub taken-more : TakenTo st₀ l₀ piece st (take kept line) i → TakenTo st₀ l₀ piece left (take (r .kept) line′) (i + r .taken)
+  taken-more a =
+      let t = drop i piece in
+      let whole : take (length piece - i) t ≡ t = take-all (length piece - i) t (omega (arith, length-drop i piece)) in
+      let e = w .reading-is ∙ ap (readText line kept out st) whole ∙ text-is line kept out st h g t in
+      let q = readParts (length out) (reading st (take kept line)) (partsOf t) in
+      let n : r .taken ≡ q .taken - 0 = ap (λ x. x .taken) e ∙ sym (sub-zero (q .taken)) in
+      let b = parts-alike (partsOf (drop (r .taken) t)) (reading left (take (r .kept) line′)) q (ap (λ x. x .store) e, ap (λ x. x .line) e) in
+      let f = ap (λ (m : ℕ). eachPart readPart q (partsOf (drop m t))) n ∙ read-left (length t) t (omega arith) (length out) (reading st (take kept line)) .1 in
+      let d = ap (λ (x : List ℕ). eachPart readPart (reading left (take (r .kept) line′)) (partsOf x)) (sym (drop-drop (r .taken) i piece)) in
+      (ap (λ x. x .store) d ∙ b .0 ∙ ap (λ x. x .store) f ∙ a .0, ap (λ x. x .line) d ∙ b .1 ∙ ap (λ x. x .line) f ∙ a .1)
+
+pub taken-all : {st₀ st : Store} {l₀ l : List ℕ} (piece : List ℕ) {i : ℕ} (well : Bool) → length piece ≤ i → TakenTo st₀ l₀ piece st l i → Taken well st₀ l₀ piece st l
+unfolding eachPart partsOf
+taken-all piece well h a =
+    let b = rw (drop-of-length-le piece h) at (a .0) in
+    let c = rw (drop-of-length-le piece h) at (a .1) in
+    record { store-is = λ e. b; line-is = λ e. c }
+
+pub taken-stopped : {st₀ st : Store} {l₀ l piece : List ℕ} {well : Bool} → well ≡ false → Taken well st₀ l₀ piece st l
+taken-stopped f = record { store-is = λ e. absurd (true≢false (sym e ∙ f)); line-is = λ e. absurd (true≢false (sym e ∙ f)) }
 
 -- the end of the text answers the line that was begun
 pub text-ended : (line : List ℕ) (kept : ℕ) (out : List ℕ) (st : Store) → 8193 ≤ length line → kept ≤ 8193 → 65537 ≤ length out

@@ -8,7 +8,7 @@ use lib.Dec.{ltb, eqb}
 use Rattle.rules.specs.Store.{Store}
 use Rattle.rules.specs.Line.{Line, answerLine}
 use Rattle.frame.specs.declared.text.Progress.{Progress}
-use Rattle.frame.specs.Text.{Part, partsOf}
+use Rattle.frame.specs.Text.{Part, partsOf, eachPart}
 
 -- of a line 8,193 characters are kept, one more than a request may have
 unfoldable pub keep : List ℕ → List ℕ → List ℕ
@@ -65,6 +65,11 @@ pub record ReadPromise (want : Reading) (r : Progress) (line out after : List �
   pub kept-fits : r .kept ≤ length line
   pub written-fits : r .written ≤ length out
   pub rest-is : drop (r .written) after ≡ drop (r .written) out
+
+-- all of the text t is taken, in whatever calls, if nothing went wrong: it followed the beginning l of a line, and left the store and what is kept
+pub record Taken (well : Bool) (st : Store) (l t : List ℕ) (left : Store) (line : List ℕ) : Type 0 where
+  pub store-is : well ≡ true → left ≡ eachPart readPart (reading st l) (partsOf t) .store
+  pub line-is : well ≡ true → line ≡ eachPart readPart (reading st l) (partsOf t) .line
 
 abbrev pub Stays : Bool → List ℕ → List ℕ → Type 0
 Stays t line after = t ≡ true → after ≡ line

@@ -2,7 +2,9 @@
 // The answers are written when what was read is served, so that whoever waits for one has it.
 ghost use mathlib.Core.Path.{_≡_};
 ghost use Prim.Native.Nat.{_≤_};
-ghost use lib.ListN.{length};
+ghost use lib.ListN.{length, take};
+ghost use Rattle.tables.specs.Lent.{after, before};
+ghost use Rattle.frame.specs.Reading.{Taken};
 use frame::Frame;
 use frame::Request;
 use libc::STDIN_FILENO;
@@ -47,7 +49,7 @@ fn write(out: &[u8], n: usize) -> bool
     written
 }
 
-// Serves what was read, in as many calls as the answers take.
+// Serves what was read, all of it, in as many calls as the answers take; it stops where they can't be written.
 fn serve_piece(
     sizes: &mut [u64],
     words: &mut [u32],
@@ -59,6 +61,9 @@ fn serve_piece(
 ) -> State
     requires { ⌜ (length (now line) ≡ 8193) × ((65537 ≤ length (now out)) × ((kept ≤ 8193) × (length (now piece) ≤ 65536))) ⌝ }
     ensures { λ r. ⌜ r .kept ≤ 8193 ⌝ }
+    ensures { λ r. ⌜ Taken (r .going)
+        (before sizes words mem) (take kept (now (line .entry))) (now (piece .entry))
+        (after sizes words mem) (take (r .kept) (now (line .exit))) ⌝ }
 {
     let mut s = State::new(kept);
     let mut i = 0;

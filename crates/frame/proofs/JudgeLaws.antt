@@ -25,7 +25,7 @@ use Rattle.frame.specs.Reading.{Kept}
 use Rattle.frame.specs.Judging.{Judging, asking, asked, comparing, parted, judging, next, placeIn, asks, replies, judgeBy, judgePart, judgeText, stageOf, judgingOf, within, fits, judgeCall, verdictBy, Asks, Replies, Answers, JudgePromise, Untouched}
 use Rattle.frame.proofs.AlikeLaws.{alike-le}
 use Rattle.frame.proofs.LineLaws.{store-is, line-written}
-use Rattle.frame.proofs.TextLaws.{parts-next}
+use Rattle.frame.proofs.TextLaws.{parts-next, Lengths, lengths-start, lengths-on}
 
 -- ---- a part of the request's line
 
@@ -177,36 +177,28 @@ and-not n at m h = rw (lt-leb at n h)
 -- the parts before place i are judged; with those that follow they are the text's
 pub record JudgeLeft (j₀ : Judge) (line₀ out₀ t : List ℕ) (st₀ : Store) (j : Judge) (line out : List ℕ) (st : Store) (i : ℕ) : Type 0 where
   pub reached : i ≤ length t
-  pub line-long : length line ≡ length line₀
-  pub out-long : length out ≡ length out₀
-  pub sizes-long : length (st .sizes) ≡ length (st₀ .sizes)
-  pub words-long : length (st .words) ≡ length (st₀ .words)
-  pub mem-long : length (st .mem) ≡ length (st₀ .mem)
+  pub long : Lengths st₀ line₀ out₀ st line out
   pub within-is : within (j .step) ≡ within (j₀ .step)
   pub same : eachPart judgePart (judgingOf j line out st) (partsOf (drop i t)) ≡ judgeText (judgingOf j₀ line₀ out₀ st₀) t
 
 pub judge-start : (j : Judge) (line out t : List ℕ) (st : Store) → JudgeLeft j line out t st j line out st 0
 unfolding judgeText
 judge-start j line out t st =
-    record { reached = omega arith; line-long = refl; out-long = refl; sizes-long = refl; words-long = refl; mem-long = refl; within-is = refl; same = refl }
+    record { reached = omega arith; long = lengths-start st line out; within-is = refl; same = refl }
 
 module _ {j₀ : Judge} {line₀ out₀ t : List ℕ} {st₀ : Store} {j : Judge} {line out : List ℕ} {st : Store} {i : ℕ} (left : JudgeLeft j₀ line₀ out₀ t st₀ j line out st i) where
   pub judge-fits : fits j₀ line₀ out₀ ≡ true → fits j line out ≡ true
   unfolding fits
-  judge-fits f = rw (left .line-long, left .out-long, left .within-is) f
+  judge-fits f = rw (left .long .line-is, left .long .out-is, left .within-is) f
 
   pub judge-more : {r : Judge} {line₁ out₁ : List ℕ} {st₁ : Store} {end : ℕ} → i < length t → end ≡ i + indexOf 10 (slice i (length t) t) → end ≤ length t
-      → length line₁ ≡ length line → length out₁ ≡ length out → length (st₁ .sizes) ≡ length (st .sizes) → length (st₁ .words) ≡ length (st .words) → length (st₁ .mem) ≡ length (st .mem)
+      → Lengths st line out st₁ line₁ out₁
       → JudgePromise (judgePart (judgingOf j line out st) (part (take (end - i) (drop i t)) (ltb end (length t)))) j r line₁ out₁ st₁
       → JudgeLeft j₀ line₀ out₀ t st₀ r line₁ out₁ st₁ (min (end + 1) (length t))
   unfolding eachPart
-  judge-more {end = end} h e k a b c d m p = record {
+  judge-more {end = end} h e k l p = record {
     reached = omega arith;
-    line-long = a ∙ left .line-long;
-    out-long = b ∙ left .out-long;
-    sizes-long = c ∙ left .sizes-long;
-    words-long = d ∙ left .words-long;
-    mem-long = m ∙ left .mem-long;
+    long = lengths-on (left .long) l;
     within-is = p .within-is ∙ left .within-is;
     same =
         ap (λ x. eachPart judgePart x (partsOf (drop (min (end + 1) (length t)) t))) (p .judging-is)

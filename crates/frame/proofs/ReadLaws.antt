@@ -22,7 +22,7 @@ use Rattle.frame.specs.Reading.{keep, Reading, reading, goesOn, endsWith
 use Rattle.frame.specs.Reading.{readingOf, ReadPromise, Kept, Answered}
 use Rattle.frame.proofs.LineLaws.{line-fits, store-is}
 use Rattle.frame.proofs.PrintLaws.{text-written, char-written}
-use Rattle.frame.proofs.TextLaws.{parts-next, take-min}
+use Rattle.frame.proofs.TextLaws.{parts-next, take-min, Lengths, lengths-start, lengths-on}
 
 -- ---- an answer
 
@@ -80,8 +80,8 @@ module _ (st : Store) (l out : List ℕ) (at : ℕ) (h : at + 65537 ≤ length o
 
 -- ---- a part
 
-alike : {a b : Reading} → a .store ≡ b .store → a .line ≡ b .line → a .answers ≡ b .answers → a .taken ≡ b .taken → a ≡ b
-alike s l w t = λ i. record { store = s i; line = l i; answers = w i; taken = t i }
+reading-eq : {a b : Reading} → a .store ≡ b .store → a .line ≡ b .line → a .answers ≡ b .answers → a .taken ≡ b .taken → a ≡ b
+reading-eq s l w t = λ i. record { store = s i; line = l i; answers = w i; taken = t i }
 
 -- the part of a text from i to `end`
 abbrev pub partAt : List ℕ → ℕ → ℕ → Part
@@ -100,7 +100,7 @@ module _ (text : List ℕ) (p : Progress) (end : ℕ) (h : p .taken ≤ end) (k 
   unfolding readPart
   part-goes-on e w =
       rw (le-ltb end (length text) e)
-      (record { reading-is = alike refl (f .kept-is) refl (omega (arith, many)); kept-fits = omega (arith, f .few); written-fits = w; rest-is = refl })
+      (record { reading-is = reading-eq refl (f .kept-is) refl (omega (arith, many)); kept-fits = omega (arith, f .few); written-fits = w; rest-is = refl })
 
   pub part-ends : {n : ℕ} {out′ : List ℕ} {left : Store} → end < length text → Answered (answerLine st (take kept line′)) (p .written) out n out′ left
       → ReadPromise wanted (record { taken = end + 1; kept = 0; written = n }) line′ out out′ left
@@ -108,7 +108,7 @@ module _ (text : List ℕ) (p : Progress) (end : ℕ) (h : p .taken ≤ end) (k 
   part-ends e a =
       rw (lt-ltb end (length text) e, ← f .kept-is)
       (record {
-        reading-is = alike (a .store-is) refl (a .answers-are) (omega (arith, many));
+        reading-is = reading-eq (a .store-is) refl (a .answers-are) (omega (arith, many));
         kept-fits = omega arith;
         written-fits = a .fits;
         rest-is = a .rest-is;
@@ -174,11 +174,7 @@ drop-more a b n m h q =
 
 -- some parts are taken; with those left they are the whole text
 pub record ReadLeft (st₀ : Store) (line₀ out₀ text : List ℕ) (kept : ℕ) (st : Store) (line out : List ℕ) (p : Progress) : Type 0 where
-  pub sizes-long : length (st .sizes) ≡ length (st₀ .sizes)
-  pub words-long : length (st .words) ≡ length (st₀ .words)
-  pub mem-long : length (st .mem) ≡ length (st₀ .mem)
-  pub line-long : length line ≡ length line₀
-  pub out-long : length out ≡ length out₀
+  pub long : Lengths st₀ line₀ out₀ st line out
   pub few : p .kept ≤ 8193
   pub within : p .taken ≤ length text
   pub fits : p .written ≤ length out
@@ -189,11 +185,7 @@ pub read-start : (st : Store) (line out text : List ℕ) {kept : ℕ} {p : Progr
     → ReadLeft st line out text kept st line out p
 read-start st line out text h e =
     rw e (record {
-      sizes-long = refl;
-      words-long = refl;
-      mem-long = refl;
-      line-long = refl;
-      out-long = refl;
+      long = lengths-start st line out;
       few = h;
       within = omega arith;
       fits = omega arith;
@@ -215,8 +207,8 @@ module _ {st₀ : Store} {line₀ out₀ text : List ℕ} {kept : ℕ} {st : Sto
   done : 8193 ≤ length line₀ → readLeft (length out₀) text here ≡ here → ReadPromise whole p line out₀ out st
   done h e = record {
     reading-is = sym e ∙ left .same;
-    kept-fits = omega (arith, left .few, left .line-long);
-    written-fits = omega (arith, left .fits, left .out-long);
+    kept-fits = omega (arith, left .few, left .long .line-is);
+    written-fits = omega (arith, left .fits, left .long .out-is);
     rest-is = left .rest-is;
   }
 
@@ -227,7 +219,7 @@ module _ {st₀ : Store} {line₀ out₀ text : List ℕ} {kept : ℕ} {st : Sto
 
   pub read-full : 8193 ≤ length line₀ → length out - p .written < 65537 → ReadPromise whole p line out₀ out st
   read-full h e =
-      done h (none-taken (length out₀) here (partsOf (drop (p .taken) text)) (omega (arith, written-is, left .fits, left .out-long)))
+      done h (none-taken (length out₀) here (partsOf (drop (p .taken) text)) (omega (arith, written-is, left .fits, left .long .out-is)))
 
   -- a part is taken
   module _ {end : ℕ} {r : Progress} {line′ out′ : List ℕ} {st′ : Store} (h : p .taken < length text)
@@ -245,19 +237,14 @@ module _ {st₀ : Store} {line₀ out₀ text : List ℕ} {kept : ℕ} {st : Sto
         omega (arith, written-is, g, ap (λ x. length (x .answers)) (w .reading-is), length-take (r .written) out′)
 
     pub read-more : 65537 ≤ length out - p .written → r .kept ≤ 8193
-        → length (st′ .sizes) ≡ length (st .sizes) → length (st′ .words) ≡ length (st .words) → length (st′ .mem) ≡ length (st .mem)
-        → length line′ ≡ length line → length out′ ≡ length out → ReadLeft st₀ line₀ out₀ text kept st′ line′ out′ r
-    read-more f g a b c d o =
-        let roomy : length (here .answers) + 65537 ≤ length out₀ = omega (arith, written-is, left .fits, left .out-long) in
+        → Lengths st line out st′ line′ out′ → ReadLeft st₀ line₀ out₀ text kept st′ line′ out′ r
+    read-more f g l =
+        let roomy : length (here .answers) + 65537 ≤ length out₀ = omega (arith, written-is, left .fits, left .long .out-is) in
         record {
-          sizes-long = a ∙ left .sizes-long;
-          words-long = b ∙ left .words-long;
-          mem-long = c ∙ left .mem-long;
-          line-long = d ∙ left .line-long;
-          out-long = o ∙ left .out-long;
+          long = lengths-on (left .long) l;
           few = g;
           within = omega (arith, taken-is);
-          fits = omega (arith, w .written-fits, o);
+          fits = omega (arith, w .written-fits, l .out-is);
           rest-is = w .rest-is ∙ drop-more out out₀ (p .written) (r .written) written-more (left .rest-is);
           same = ap (readLeft (length out₀) text) (w .reading-is) ∙ read-next (length out₀) text here h e k roomy ∙ left .same;
         }
@@ -274,7 +261,7 @@ module _ (line : List ℕ) (kept : ℕ) (out : List ℕ) (st : Store) (t : List 
   module _ {n : ℕ} (e : n ≡ min kept (length line)) (q : r ≡ record { taken = 0; kept = n; written = 0 }) where
     refused : readText line kept out st t ≡ reading st (take kept line) → ReadPromise (readText line kept out st t) r line out out st
     refused w =
-        rw (w, q, e) (record { reading-is = alike refl (take-min kept line) refl refl; kept-fits = omega arith; written-fits = omega arith; rest-is = refl })
+        rw (w, q, e) (record { reading-is = reading-eq refl (take-min kept line) refl refl; kept-fits = omega arith; written-fits = omega arith; rest-is = refl })
 
     pub line-short : length line < 8193 → ReadPromise (readText line kept out st t) r line out out st
     unfolding readText unready
@@ -284,11 +271,11 @@ module _ (line : List ℕ) (kept : ℕ) (out : List ℕ) (st : Store) (t : List 
     unfolding readText unready
     kept-many h k = refused (rw (le-ltb (length line) 8193 h, lt-ltb 8193 kept k))
 
-  pub text-served : {line′ out′ : List ℕ} {left : Store} → 8193 ≤ length line → kept ≤ 8193
+  pub call-served : {line′ out′ : List ℕ} {left : Store} → 8193 ≤ length line → kept ≤ 8193
       → ReadPromise (readParts (length out) (reading st (take kept line)) (partsOf t)) r line′ out out′ left
       → ReadPromise (readText line kept out st t) r line′ out out′ left
   unfolding readText unready
-  text-served h k w = rw (le-ltb (length line) 8193 h, le-ltb 8193 kept k) w
+  call-served h k w = rw (le-ltb (length line) 8193 h, le-ltb 8193 kept k) w
 
 module _ (line : List ℕ) (kept : ℕ) (out : List ℕ) (st : Store) {r : Progress} where
   pub no-line : kept ≡ 0 → r ≡ record { taken = 0; kept = 0; written = 0 } → ReadPromise (readEnd line kept out st) r line out out st

@@ -19,11 +19,15 @@ use Rattle.frame.specs.declared.judge.Judge.{Judge}
 use Rattle.frame.specs.Text.{Part, part, partsOf, linesOf, eachPart}
 use Rattle.frame.specs.Reading.{keep}
 use Rattle.frame.specs.Recording.{lower, alike, sameLine, refusal, bytePlace, Verdict, same, differs, odd, verdictFrom, verdict}
-use Rattle.frame.specs.Judging.{Stage, asking, asked, comparing, parted, Judging, judging, next, placeIn, asks, repliesBy, replies, judgeBy, judgePart, judgeText, verdictBy, verdictOf, stageOf, judgingOf, fits, judgeCall, JudgePromise}
+use Rattle.frame.specs.Judging.{Stage, asking, asked, comparing, parted, Judging, judging, next, placeIn, asks, repliesBy, replies, judgeBy, judgePart, judgeText, verdictBy, stageOf, judgingOf, fits, judgeCall, JudgePromise}
 use Rattle.frame.specs.Printing.{verdictCall}
 use Rattle.frame.proofs.TextLaws.{pieces, keep-keep, answer-keep, keep-some, Proper, parts-proper, parts-few}
 use Rattle.frame.proofs.AlikeLaws.{alike-le, alike-le-right, alike-parted, alike-on}
 use Rattle.frame.proofs.JudgeLaws.{fits-step}
+
+-- the verdict where the text ends
+abbrev pub verdictOf : Judging → Verdict
+verdictOf j = verdictBy (j .pairs) (j .stage)
 
 -- ---- a line's parts
 
@@ -124,7 +128,7 @@ After j ps = verdictOf (eachPart judgePart j ps)
 
 -- a difference was found
 after-parted : (st : Store) (n place : ℕ) (ps : List Part) → n < 18446744073709551615 → After (judging st n (parted place)) ps ≡ differs (n + 1) place
-unfolding verdictOf verdictBy
+unfolding verdictBy
 after-parted st n place ps h = ap verdictOf (parted-stays st n place ps) ∙ ap (λ (m : ℕ). differs m place) (next-is n h)
 
 module _ (st : Store) (n : ℕ) (a : List ℕ) (q : Part) (ps : List Part) (h : n < 18446744073709551615)
@@ -144,7 +148,7 @@ module _ (st : Store) (n : ℕ) (a : List ℕ) (q : Part) (ps : List Part) (h : 
 
   -- the text ends in the reply's line, which is alike so far
   told-open : length (q .text) ≡ k → q .ended ≡ false → Told (judging st n (comparing a k))
-  unfolding verdictOf verdictBy verdictFrom eachPart sameLine
+  unfolding verdictBy verdictFrom eachPart sameLine
   told-open all o = rw (last o) (by (ltb k (length a)) refl)
     where
       by : (t : Bool) → ltb k (length a) ≡ t
@@ -182,7 +186,7 @@ proper-rest q (r ∷ rs) h = h .1
 
 -- a request without a reply
 odd-told : (p : Part) (st : Store) (n : ℕ) → Proper (p ∷ []) → n < 18446744073709551615 → After (judging st n (asking [])) (p ∷ []) ≡ odd (n + 1)
-unfolding eachPart judgePart asks verdictOf verdictBy
+unfolding eachPart judgePart asks verdictBy
 odd-told p st n pr h = by (p .ended) refl (keep [] (p .text)) refl
   where
     by : (e : Bool) → p .ended ≡ e → (l : List ℕ) → keep [] (p .text) ≡ l → verdictBy n (cond (p .ended) (asked (keep [] (p .text))) (asking (keep [] (p .text)))) ≡ odd (n + 1)
@@ -192,7 +196,7 @@ odd-told p st n pr h = by (p .ended) refl (keep [] (p .text)) refl
 
 verdict-parts : (ps : List Part) → Proper ps → (st : Store) (n : ℕ) → n + length ps < 18446744073709551616
     → After (judging st n (asking [])) ps ≡ verdictFrom st n (map (λ p. p .text) ps)
-unfolding verdictFrom eachPart judgePart asks verdictOf verdictBy
+unfolding verdictFrom eachPart judgePart asks verdictBy
 verdict-parts [] pr st n h = refl
 verdict-parts (p ∷ []) pr st n h = odd-told p st n pr (omega arith)
 verdict-parts (p ∷ q ∷ ps) pr st n h =
@@ -241,7 +245,7 @@ module _ (line out : List ℕ) (h : 8193 ≤ length line) (k : 65536 ≤ length 
   }
 
 pub judged-end : {t line out : List ℕ} {j : Judge} {st : Store} → length t < 18446744073709551616 → Judged t j line out st → verdictCall j line out ≡ some (verdict (linesOf t))
-unfolding verdictCall verdictOf judgingOf
+unfolding verdictCall judgingOf
 judged-end {t} {line} {out} {j} {st} h b = rw (b .fits-is) (ap some (by ∙ ap verdictOf (b .judging-is) ∙ verdict-is t h))
   where
     by : verdictBy (j .pairs) (stageOf (j .step) line out) ≡ verdictOf (judgingOf j line out st)

@@ -190,3 +190,26 @@ parts-few (c ∷ cs) = go (eqb c 10) (partsOf cs) (parts-few cs)
     go true ps h = omega arith
     go false [] h = omega arith
     go false (p ∷ ps) h = omega arith
+
+-- ---- what is lent
+
+-- tables and buffers keep their lengths
+pub record Lengths (st₀ : Store) (line₀ out₀ : List ℕ) (st : Store) (line out : List ℕ) : Type 0 where
+  pub sizes-are : length (st .sizes) ≡ length (st₀ .sizes)
+  pub words-are : length (st .words) ≡ length (st₀ .words)
+  pub mem-is : length (st .mem) ≡ length (st₀ .mem)
+  pub line-is : length line ≡ length line₀
+  pub out-is : length out ≡ length out₀
+
+pub lengths-start : (st : Store) (line out : List ℕ) → Lengths st line out st line out
+lengths-start st line out = record { sizes-are = refl; words-are = refl; mem-is = refl; line-is = refl; out-is = refl }
+
+pub lengths-on : {st₀ st st′ : Store} {line₀ line line′ out₀ out out′ : List ℕ} → Lengths st₀ line₀ out₀ st line out → Lengths st line out st′ line′ out′
+    → Lengths st₀ line₀ out₀ st′ line′ out′
+lengths-on a b = record {
+  sizes-are = b .sizes-are ∙ a .sizes-are;
+  words-are = b .words-are ∙ a .words-are;
+  mem-is = b .mem-is ∙ a .mem-is;
+  line-is = b .line-is ∙ a .line-is;
+  out-is = b .out-is ∙ a .out-is;
+}

@@ -246,26 +246,26 @@ module _ (line : List ℕ) (kept : ℕ) (out : List ℕ) (st : Store) (t : List 
 -- ---- a text taken in several calls
 
 -- the same store and line, whatever was answered and taken before
-abbrev pub Alike : Reading → Reading → Type 0
-Alike r q = (r .store ≡ q .store) × (r .line ≡ q .line)
+abbrev pub SameState : Reading → Reading → Type 0
+SameState r q = (r .store ≡ q .store) × (r .line ≡ q .line)
 
-part-alike : (p : Part) (r q : Reading) → Alike r q → Alike (readPart r p) (readPart q p)
+part-state : (p : Part) (r q : Reading) → SameState r q → SameState (readPart r p) (readPart q p)
 unfolding readPart
-part-alike p r q a = by (p .ended)
+part-state p r q a = by (p .ended)
   where
-    by : (e : Bool) → Alike (stepBy r (p .text) e) (stepBy q (p .text) e)
+    by : (e : Bool) → SameState (stepBy r (p .text) e) (stepBy q (p .text) e)
     by true =
         (ap (λ x. answerLine x (keep (r .line) (p .text)) .store) (a .0) ∙ ap (λ (l : List ℕ). answerLine (q .store) (keep l (p .text)) .store) (a .1), refl)
     by false = (a .0, ap (λ (l : List ℕ). keep l (p .text)) (a .1))
 
-parts-alike : (ps : List Part) (r q : Reading) → Alike r q → Alike (eachPart readPart r ps) (eachPart readPart q ps)
+parts-state : (ps : List Part) (r q : Reading) → SameState r q → SameState (eachPart readPart r ps) (eachPart readPart q ps)
 unfolding eachPart
-parts-alike [] r q a = a
-parts-alike (p ∷ ps) r q a = parts-alike ps (readPart r p) (readPart q p) (part-alike p r q a)
+parts-state [] r q a = a
+parts-state (p ∷ ps) r q a = parts-state ps (readPart r p) (readPart q p) (part-state p r q a)
 
 -- what follows place i takes a piece to its end
 abbrev pub TakenTo : Store → List ℕ → List ℕ → Store → List ℕ → ℕ → Type 0
-TakenTo st₀ l₀ piece st l i = Alike (eachPart readPart (reading st l) (partsOf (drop i piece))) (eachPart readPart (reading st₀ l₀) (partsOf piece))
+TakenTo st₀ l₀ piece st l i = SameState (eachPart readPart (reading st l) (partsOf (drop i piece))) (eachPart readPart (reading st₀ l₀) (partsOf piece))
 
 pub taken-start : (st : Store) (l piece : List ℕ) → TakenTo st l piece st l 0
 taken-start st l piece = (refl, refl)
@@ -279,7 +279,7 @@ module _ (st₀ : Store) (l₀ piece : List ℕ) (line : List ℕ) (kept : ℕ) 
       let e = w .reading-is ∙ ap (readText line kept out st) whole ∙ text-is line kept out st h g t in
       let q = readParts (length out) (reading st (take kept line)) (partsOf t) in
       let n : r .taken ≡ q .taken - 0 = ap (λ x. x .taken) e ∙ sym (sub-zero (q .taken)) in
-      let b = parts-alike (partsOf (drop (r .taken) t)) (reading left (take (r .kept) line′)) q (ap (λ x. x .store) e, ap (λ x. x .line) e) in
+      let b = parts-state (partsOf (drop (r .taken) t)) (reading left (take (r .kept) line′)) q (ap (λ x. x .store) e, ap (λ x. x .line) e) in
       let f = ap (λ (m : ℕ). eachPart readPart q (partsOf (drop m t))) n ∙ read-left (length t) t (omega arith) (length out) (reading st (take kept line)) .1 in
       let d = ap (λ (x : List ℕ). eachPart readPart (reading left (take (r .kept) line′)) (partsOf x)) (sym (drop-drop (r .taken) i piece)) in
       (ap (λ x. x .store) d ∙ b .0 ∙ ap (λ x. x .store) f ∙ a .0, ap (λ x. x .line) d ∙ b .1 ∙ ap (λ x. x .line) f ∙ a .1)

@@ -7,14 +7,14 @@ use lib.ListN.{length, take, drop}
 use lib.Dec.{eqb}
 use Rattle.bytes.specs.Bytes.{indexOf}
 
-abbrev pub differs : ℕ → ℕ → ℕ
-differs a b = cond (eqb a b) 0 1
+abbrev pub mismatch : ℕ → ℕ → ℕ
+mismatch a b = cond (eqb a b) 0 1
 
 -- in how many places two lists differ
-unfoldable pub unlike : List ℕ → List ℕ → ℕ
-unlike [] ys = 0
-unlike (x ∷ xs) [] = 0
-unlike (x ∷ xs) (y ∷ ys) = differs x y + unlike xs ys
+unfoldable pub mismatches : List ℕ → List ℕ → ℕ
+mismatches [] ys = 0
+mismatches (x ∷ xs) [] = 0
+mismatches (x ∷ xs) (y ∷ ys) = mismatch x y + mismatches xs ys
 
 -- two lists are the same from place i to r, which is n at most
 pub record Same (a b : List ℕ) (n i r : ℕ) : Type 0 where

@@ -79,9 +79,6 @@ verdictBy n (asked l) = odd (next n)
 verdictBy n (comparing a at) = cond (ltb at (length a)) (differs (next n) (placeIn a at)) (same (next n))
 verdictBy n (parted place) = differs (next n) place
 
-unfoldable pub verdictOf : Judging → Verdict
-verdictOf j = verdictBy (j .pairs) (j .stage)
-
 -- ---- what calls leave
 
 -- the request's line stands in `line`, the answer in `out`

@@ -4,7 +4,7 @@ ghost use mathlib.Core.Path.{_≡_};
 ghost use Prim.Native.Nat.{_+_, _≤_};
 ghost use lib.ListN.{length, replicate};
 ghost use Rattle.bytes.specs.Bytes.{slice, indexOf};
-ghost use Rattle.frame.specs.Blocks.{differs, unlike, Same, Plain};
+ghost use Rattle.frame.specs.Blocks.{mismatch as Blocks·mismatch, mismatches as Blocks·mismatches, Same, Plain};
 
 struct Block {}
 
@@ -13,21 +13,21 @@ impl Block {
 }
 
 // 1 where two characters differ, as they stand.
-fn differ(a: u8, b: u8) -> u8
-    ensures { λ r. ⌜ r ≡ differs a b ⌝ }
+fn mismatch(a: u8, b: u8) -> u8
+    ensures { λ r. ⌜ r ≡ Blocks·mismatch a b ⌝ }
 {
     if a == b { 0 } else { 1 }
 }
 
 // In how many places a block differs from another.
-fn differing(a: &[u8], b: &[u8]) -> u8
+fn mismatches(a: &[u8], b: &[u8]) -> u8
     requires { ⌜ (length (now a) ≤ 64) × (length (now a) ≤ length (now b)) ⌝ }
-    ensures { λ r. ⌜ r ≡ unlike (now (a .entry)) (now (b .entry)) ⌝ }
+    ensures { λ r. ⌜ r ≡ Blocks·mismatches (now (a .entry)) (now (b .entry)) ⌝ }
 {
     let mut n = 0;
     let mut i = 0;
     while i < a.len() {
-        n = n + differ(a[i], b[i]);
+        n = n + mismatch(a[i], b[i]);
         i += 1;
     }
     n
@@ -41,7 +41,7 @@ fn same_step(a: &[u8], b: &[u8], n: usize, i: usize) -> usize
     if n - i < Block::SIZE {
         return i;
     }
-    if differing(&a[i..i + 64], &b[i..i + 64]) != 0 {
+    if mismatches(&a[i..i + Block::SIZE], &b[i..i + Block::SIZE]) != 0 {
         return i;
     }
     i + Block::SIZE
@@ -69,7 +69,7 @@ fn plain_step(text: &[u8], newlines: &[u8], i: usize) -> usize
     if text.len() - i < Block::SIZE {
         return i;
     }
-    if (differing(&text[i..i + 64], newlines) as usize) < Block::SIZE {
+    if (mismatches(&text[i..i + Block::SIZE], newlines) as usize) < Block::SIZE {
         return i;
     }
     i + Block::SIZE
@@ -95,7 +95,7 @@ pub fn line_end(text: &[u8], from: usize) -> usize
     ensures { λ r. ⌜ r ≡ from + indexOf 10 (slice from (length (now (text .entry))) (now (text .entry))) ⌝ }
     ensures { λ r. ⌜ r ≤ length (now (text .entry)) ⌝ }
 {
-    let newlines = [b'\n'; 64];
+    let newlines = [b'\n'; Block::SIZE];
     let at = plain_blocks(text, &newlines, from);
     bytes::scan::find(text, at, text.len(), b'\n')
 }

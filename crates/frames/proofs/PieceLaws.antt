@@ -1,6 +1,6 @@
 -- Laws on a piece of the input that is served in several calls.
 use Prim.Native.Nat.{ℕ, _+_, _-_, _≤_, _<_}
-use mathlib.Core.Path.{_≡_, refl, _∙_}
+use mathlib.Core.Path.{_≡_}
 use mathlib.Core.Bool.{Bool, false}
 use mathlib.Core.List.{List}
 use native.Mathlib.Omega.{arith}
@@ -9,15 +9,12 @@ use borrow.Rule.Slice.PartMut.{mid-len}
 use Rattle.rules.specs.Store.{Store}
 use Rattle.frame.specs.declared.text.Progress.{Progress}
 use Rattle.frame.specs.Reading.{readText, ReadPromise, Taken}
+use Rattle.frame.proofs.TextLaws.{Lengths, lengths-start, lengths-on}
 use Rattle.frame.proofs.TextProof.{call-within, call-moves, TakenTo, taken-start, taken-more, taken-all, taken-stopped}
 
 -- the piece is taken to place i
 pub record PieceLeft (st₀ : Store) (line₀ out₀ piece : List ℕ) (kept₀ : ℕ) (st : Store) (line out : List ℕ) (kept i : ℕ) : Type 0 where
-  pub sizes-long : length (st .sizes) ≡ length (st₀ .sizes)
-  pub words-long : length (st .words) ≡ length (st₀ .words)
-  pub mem-long : length (st .mem) ≡ length (st₀ .mem)
-  pub line-long : length line ≡ length line₀
-  pub out-long : length out ≡ length out₀
+  pub long : Lengths st₀ line₀ out₀ st line out
   pub few : kept ≤ 8193
   pub reached : i ≤ length piece
   pub taken : TakenTo st₀ (take kept₀ line₀) piece st (take kept line) i
@@ -25,11 +22,7 @@ pub record PieceLeft (st₀ : Store) (line₀ out₀ piece : List ℕ) (kept₀ 
 pub piece-start : (st : Store) (line out piece : List ℕ) (kept₀ : ℕ) {kept : ℕ} → kept ≡ kept₀ → kept₀ ≤ 8193 → PieceLeft st line out piece kept₀ st line out kept 0
 piece-start st line out piece kept₀ e h =
     rw e (record {
-      sizes-long = refl;
-      words-long = refl;
-      mem-long = refl;
-      line-long = refl;
-      out-long = refl;
+      long = lengths-start st line out;
       few = h;
       reached = omega arith;
       taken = taken-start st (take kept₀ line) piece;
@@ -40,27 +33,22 @@ module _ {st₀ : Store} {line₀ out₀ piece : List ℕ} {kept₀ : ℕ} {st :
   -- one call more
   module _ {r : Progress} {line′ out′ : List ℕ} {st′ : Store} (h : length line₀ ≡ 8193)
       (w : ReadPromise (readText line kept out st (take (length piece - i) (drop i piece))) r line′ out out′ st′) where
-    long : length (take (length piece - i) (drop i piece)) ≡ length piece - i
-    long = mid-len i (length piece) piece (omega arith)
+    rest : length (take (length piece - i) (drop i piece)) ≡ length piece - i
+    rest = mid-len i (length piece) piece (omega arith)
 
     pub piece-within : i + r .taken ≤ length piece
-    piece-within = omega (arith, call-within _ _ _ _ _ w (omega (arith, h, left .line-long)) (left .few), long, left .reached)
+    piece-within = omega (arith, call-within _ _ _ _ _ w (omega (arith, h, left .long .line-is)) (left .few), rest, left .reached)
 
     pub piece-moves : 65537 ≤ length out₀ → i < length piece → 0 < r .taken
     piece-moves room less =
-        call-moves _ _ _ _ _ w (omega (arith, h, left .line-long)) (left .few) (omega (arith, room, left .out-long)) (omega (arith, long))
+        call-moves _ _ _ _ _ w (omega (arith, h, left .long .line-is)) (left .few) (omega (arith, room, left .long .out-is)) (omega (arith, rest))
 
-    pub piece-more : length (st′ .sizes) ≡ length (st .sizes) → length (st′ .words) ≡ length (st .words) → length (st′ .mem) ≡ length (st .mem)
-        → length line′ ≡ length line → length out′ ≡ length out → PieceLeft st₀ line₀ out₀ piece kept₀ st′ line′ out′ (r .kept) (i + r .taken)
-    piece-more a b c d o = record {
-      sizes-long = a ∙ left .sizes-long;
-      words-long = b ∙ left .words-long;
-      mem-long = c ∙ left .mem-long;
-      line-long = d ∙ left .line-long;
-      out-long = o ∙ left .out-long;
-      few = omega (arith, w .kept-fits, d, left .line-long, h);
+    pub piece-more : Lengths st line out st′ line′ out′ → PieceLeft st₀ line₀ out₀ piece kept₀ st′ line′ out′ (r .kept) (i + r .taken)
+    piece-more l = record {
+      long = lengths-on (left .long) l;
+      few = omega (arith, w .kept-fits, l .line-is, left .long .line-is, h);
       reached = piece-within;
-      taken = taken-more st₀ (take kept₀ line₀) piece line kept out st i w (omega (arith, h, left .line-long)) (left .few) (left .taken);
+      taken = taken-more st₀ (take kept₀ line₀) piece line kept out st i w (omega (arith, h, left .long .line-is)) (left .few) (left .taken);
     }
 
   -- the piece is at its end, or the answers can't be written

@@ -42,40 +42,10 @@ loop-again c =
     let k = c .before .before .before .before .before .before .before .before .before .before .before .before .before in
     let l = k .before .before .before .before .before .before .before .before .before in
     let q = k .serve-text .kept in
-    piece-more (l .loop .inv) (l .before .before .before .before .before .before .before .before .pre .0) (k .serve-text .ensures .0) (q .0) (q .1 .0) (q .1 .1 .0) (q .1 .1 .1 .0) (q .1 .1 .1 .1 .0)
-
-same-length : tie.Need-same-length Inv-loop μ-loop
-same-length c = c .before .before .loop .inv .sizes-long
-
-same-length-2 : tie.Need-same-length-2 Inv-loop μ-loop
-same-length-2 c = c .before .before .loop .inv .words-long
-
-same-length-3 : tie.Need-same-length-3 Inv-loop μ-loop
-same-length-3 c = c .before .before .loop .inv .mem-long
-
-same-length-4 : tie.Need-same-length-4 Inv-loop μ-loop
-same-length-4 c = c .before .before .loop .inv .line-long
-
-same-length-5 : tie.Need-same-length-5 Inv-loop μ-loop
-same-length-5 c = c .before .before .loop .inv .out-long
+    piece-more (l .loop .inv) (l .before .before .before .before .before .before .before .before .pre .0) (k .serve-text .ensures .0) (record { sizes-are = q .0; words-are = q .1 .0; mem-is = q .1 .1 .0; line-is = q .1 .1 .1 .0; out-is = q .1 .1 .1 .1 .0 })
 
 returns : tie.Need-returns Inv-loop μ-loop
 returns c = piece-stopped (c .before .before .loop .inv) (c .if1 .left)
-
-same-length-6 : tie.Need-same-length-6 Inv-loop μ-loop
-same-length-6 c = c .before .loop .inv .sizes-long
-
-same-length-7 : tie.Need-same-length-7 Inv-loop μ-loop
-same-length-7 c = c .before .loop .inv .words-long
-
-same-length-8 : tie.Need-same-length-8 Inv-loop μ-loop
-same-length-8 c = c .before .loop .inv .mem-long
-
-same-length-9 : tie.Need-same-length-9 Inv-loop μ-loop
-same-length-9 c = c .before .loop .inv .line-long
-
-same-length-10 : tie.Need-same-length-10 Inv-loop μ-loop
-same-length-10 c = c .before .loop .inv .out-long
 
 returns-2 : tie.Need-returns-2 Inv-loop μ-loop
 returns-2 c = piece-end (c .before .loop .inv) _ (c .loop-test .left)
@@ -85,6 +55,6 @@ serve-piece-spec =
     tie.close
     (tie.spec
     Inv-loop μ-loop (λ c κs. search needs) loop-holds (λ c. search needs) (λ c. search needs)
-    (λ c. search needs) (λ c κs. search needs) add-i write-requires loop-less loop-again same-length
-    same-length-2 same-length-3 same-length-4 same-length-5 returns same-length-6 same-length-7 same-length-8
-    same-length-9 same-length-10 returns-2)
+    (λ c. search needs) (λ c κs. search needs) add-i write-requires loop-less loop-again (λ c. search needs)
+    (λ c. search needs) (λ c. search needs) (λ c. search needs) (λ c. search needs) returns (λ c. search needs) (λ c. search needs) (λ c. search needs)
+    (λ c. search needs) (λ c. search needs) returns-2)

@@ -1,7 +1,7 @@
 use mathlib.Core.Path.{ap, _∙_}
 use native.Mathlib.Omega.{arith}
 use lib.ListN.{drop}
-use Rattle.frame.specs.Blocks.{unlike}
+use Rattle.frame.specs.Blocks.{mismatches}
 use Rattle.frame.proofs.BlockLaws.{block-fits, plain-none, plain-block}
 use borrow.Author.Needs.{needs}
 use Rattle.frame.proofs.blocks.plain_step.Statement.{statement}
@@ -10,8 +10,8 @@ use Rattle.frame.proofs.blocks.plain_step.Tie as tie
 returns : tie.Need-returns
 returns c = plain-none _ _ (c .before .before .before .pre .0)
 
-differing-requires : tie.Need-differing-requires
-differing-requires c κs =
+mismatches-requires : tie.Need-mismatches-requires
+mismatches-requires c κs =
     let a = c .before .before .before .before in
     block-fits (a .args .i) (drop (a .args .i) (a .args .text .now)) _ (a .pre .1)
 
@@ -22,11 +22,11 @@ returns-3 : tie.Need-returns-3
 returns-3 c =
     let d = c .before in
     let a = d .before .before .before .before .before in
-    plain-block _ (omega arith) (omega (arith, c .if2 .left, d .differing .ensures ∙ ap (unlike _) (a .pre .1)))
+    plain-block _ (omega arith) (omega (arith, c .if2 .left, d .mismatches .ensures ∙ ap (mismatches _) (a .pre .1)))
 
 pub plain-step-spec : {M : Type 1} → statement M
 plain-step-spec =
     tie.close
     (tie.spec
     (λ c. search needs) returns (λ c. search needs) (λ c. search needs) (λ c. search needs)
-    (λ c. search needs) differing-requires (λ c. search needs) returns-2 (λ c. search needs) returns-3)
+    (λ c. search needs) mismatches-requires (λ c. search needs) returns-2 (λ c. search needs) returns-3)

@@ -14,7 +14,7 @@ returns-2 c = same-none _ _ _ _ (omega arith)
 returns-3 : tie.Need-returns-3
 returns-3 c =
     let d = c .before in
-    same-block _ _ (omega arith) (omega arith) (omega arith) (sym (c .if2 .left) ∙ d .differing .ensures)
+    same-block _ _ (omega arith) (omega arith) (omega arith) (sym (c .if2 .left) ∙ d .mismatches .ensures)
 
 pub same-step-spec : {M : Type 1} → statement M
 same-step-spec =

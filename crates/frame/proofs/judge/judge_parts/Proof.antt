@@ -31,25 +31,11 @@ loop-again c =
     let k = c .before .before .before .before .before .before .before .before .before .before .before in
     let f = k .before .before .before .before .before .before .before in
     let l = f .before .before in
+    let q = k .judge-part .kept in
     rw (c .past .ensures)
     (judge-more (l .loop .inv) (f .before .loop-test .taken) (f .line-end .ensures .0) (f .line-end .ensures .1)
-    (k .judge-part .kept .1 .1 .1 .0) (k .judge-part .kept .1 .1 .1 .1 .0) (k .judge-part .kept .0) (k .judge-part .kept .1 .0) (k .judge-part .kept .1 .1 .0)
+    (record { sizes-are = q .0; words-are = q .1 .0; mem-is = q .1 .1 .0; line-is = q .1 .1 .1 .0; out-is = q .1 .1 .1 .1 .0 })
     (k .judge-part .ensures))
-
-same-length : tie.Need-same-length Inv-loop μ-loop
-same-length c = c .before .loop .inv .sizes-long
-
-same-length-2 : tie.Need-same-length-2 Inv-loop μ-loop
-same-length-2 c = c .before .loop .inv .words-long
-
-same-length-3 : tie.Need-same-length-3 Inv-loop μ-loop
-same-length-3 c = c .before .loop .inv .mem-long
-
-same-length-4 : tie.Need-same-length-4 Inv-loop μ-loop
-same-length-4 c = c .before .loop .inv .line-long
-
-same-length-5 : tie.Need-same-length-5 Inv-loop μ-loop
-same-length-5 c = c .before .loop .inv .out-long
 
 returns : tie.Need-returns Inv-loop μ-loop
 returns c = judge-end (c .before .loop .inv) (c .loop-test .left)
@@ -62,5 +48,5 @@ judge-parts-spec =
     tie.close
     (tie.spec
     Inv-loop μ-loop loop-holds (λ c κs. search needs) sub-judge-part (λ c. search needs) (λ c. search needs)
-    judge-part-requires (λ c κs. search needs) loop-less loop-again same-length same-length-2 same-length-3
-    same-length-4 same-length-5 returns)
+    judge-part-requires (λ c κs. search needs) loop-less loop-again (λ c. search needs) (λ c. search needs) (λ c. search needs)
+    (λ c. search needs) (λ c. search needs) returns)

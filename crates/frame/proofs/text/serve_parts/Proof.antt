@@ -23,7 +23,7 @@ serve-part-requires c κs =
     let l = f .before .before .before .before .before in
     let i = l .loop .inv in
     let room : 65537 ≤ length (l .loop .out) - l .loop .p .written = leb-true _ _ (f .before .if2 .taken) in
-    (i .few, (omega (arith, i .line-long), (omega (arith, i .fits), (omega (arith, f .line-end .ensures .0), f .line-end .ensures .1))))
+    (i .few, (omega (arith, i .long .line-is), (omega (arith, i .fits), (omega (arith, f .line-end .ensures .0), f .line-end .ensures .1))))
 
 loop-less : tie.Need-loop-less Inv-loop μ-loop
 loop-less c =
@@ -39,9 +39,10 @@ loop-again c =
     let f = k .before .before .before .before .before .before in
     let t = f .before .before .before in
     let l = t .before .before in
+    let q = k .serve-part .kept in
     read-more (l .loop .inv) (t .if1 .taken) (f .line-end .ensures .0) (f .line-end .ensures .1) (k .serve-part .ensures .0)
     (leb-true _ _ (f .before .if2 .taken)) (k .serve-part .ensures .1)
-    (k .serve-part .kept .0) (k .serve-part .kept .1 .0) (k .serve-part .kept .1 .1 .0) (k .serve-part .kept .1 .1 .1 .0) (k .serve-part .kept .1 .1 .1 .1 .0)
+    (record { sizes-are = q .0; words-are = q .1 .0; mem-is = q .1 .1 .0; line-is = q .1 .1 .1 .0; out-is = q .1 .1 .1 .1 .0 })
 
 returns : tie.Need-returns Inv-loop μ-loop
 returns c =

@@ -1,5 +1,5 @@
 use mathlib.Core.Path.{refl}
-use Rattle.frame.proofs.ReadLaws.{line-short, kept-many, text-served, not-unready}
+use Rattle.frame.proofs.ReadLaws.{line-short, kept-many, call-served, not-unready}
 use borrow.Author.Needs.{needs}
 use Rattle.frame.proofs.text.serve_text.Statement.{statement}
 use Rattle.frame.proofs.text.serve_text.Tie as tie
@@ -17,7 +17,7 @@ returns-3 : tie.Need-returns-3
 returns-3 c =
     let k = c .before .before .before .before .before .before .before .before .before .before in
     let t = k .before .before .before .before .before .before in
-    (text-served _ _ _ _ _ (t .before .if1 .left) (t .if2 .left) (k .serve-parts .ensures), λ e. absurd (not-unready _ _ (t .before .if1 .left) (t .if2 .left) e))
+    (call-served _ _ _ _ _ (t .before .if1 .left) (t .if2 .left) (k .serve-parts .ensures), λ e. absurd (not-unready _ _ (t .before .if1 .left) (t .if2 .left) e))
 
 pub serve-text-spec : {M : Type 1} → statement M
 serve-text-spec =

@@ -1,6 +1,6 @@
 use borrow.Author.Tests.{eq-eqb, ne-eqb}
-use Rattle.frame.proofs.blocks.differ.Statement.{statement}
-use Rattle.frame.proofs.blocks.differ.Tie as tie
+use Rattle.frame.proofs.blocks.mismatch.Statement.{statement}
+use Rattle.frame.proofs.blocks.mismatch.Tie as tie
 
 returns : tie.Need-returns
 returns c = rw (eq-eqb (c .before .args .a) (c .before .args .b) (c .if1 .taken))
@@ -8,5 +8,5 @@ returns c = rw (eq-eqb (c .before .args .a) (c .before .args .b) (c .if1 .taken)
 returns-2 : tie.Need-returns-2
 returns-2 c = rw (ne-eqb (c .before .args .a) (c .before .args .b) (c .if1 .left))
 
-pub differ-spec : {M : Type 1} → statement M
-differ-spec = tie.close (tie.spec returns returns-2)
+pub mismatch-spec : {M : Type 1} → statement M
+mismatch-spec = tie.close (tie.spec returns returns-2)

@@ -10,7 +10,8 @@ import collections
 import sys
 
 from frames import (BADXDR, DATA, FBIG, HOLE, INVAL, LAST, NOSPC, NXIO, OK, STALE, allocate, both, clone, compound,
-                    copy, deallocate, on, putfh, read, read_plus, savefh, seek, text, u32, u64, write)
+                    copy, deallocate, on, putfh, read, read_plus, savefh, seek, text, u32, u64, walk,
+                    write)
 from wire_check import Damaged, decode_reply, lines_of
 
 BLOCKS = (512, 1024, 2048, 4096)
@@ -304,7 +305,9 @@ def reads(block):
     for k in range(1, 7):
         yield ok(on(0, *[read_plus(k * block + at, count) for at, count in near],
                     *[seek(k * block + at, what) for at in (-1, 0) for what in (DATA, HOLE)]))
-    yield fails(NXIO, on(0, seek(6 * block, HOLE), seek(6 * block + 1, HOLE)))
+    for _, line, tail in walk(0, (DATA, block), (HOLE, 2 * block), (DATA, block), (HOLE, block), (DATA, block + 1)):
+        yield ok(line, tail=tail)
+    yield fails(NXIO, on(0, seek(6 * block + 1, HOLE), seek(6 * block + 2, HOLE)))
     span = min(block, 2048)
     for a in (-1, 0, 1):  # over the two holes, as far as is granted
         yield ok(on(0, *[read_plus(block + a, 2 * block - a + b) for b in (-1, 0, 1)],

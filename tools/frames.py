@@ -7,6 +7,7 @@
 The store is empty at the start: 4 files of 16 slots, 32 blocks of 512 bytes.
 """
 import collections
+import itertools
 import sys
 
 from wire_check import Damaged, counted, decode_reply, lines_of, name_of
@@ -120,6 +121,21 @@ def text(count):
     return bytes(at % 251 + 1 for at in range(count))
 
 
+def walk(file, *pieces):
+    """SEEKs for data and hole by turns over a file of these pieces, each (what, bytes), and two more at its size."""
+    starts = list(itertools.accumulate((length for _, length in pieces), initial=0))
+    place, what, size = 0, DATA, starts.pop()
+    asked = []
+    while not asked or place < size:
+        asked.append(seek(place, what))
+        ahead = [max(place, at) for (kind, length), at in zip(pieces, starts) if kind == what and place < at + length]
+        place, what = min(ahead, default=size), HOLE if what == DATA else DATA
+        yield OK, on(file, asked[-1]), u32(place == size) + u64(place)
+    yield OK, on(file, seek(size, DATA)), u32(1) + u64(size)
+    yield OK, on(file, seek(size, HOLE)), u32(1) + u64(size)
+
+
+# The status of a line's answer, the line and, where they are told, the answer's last bytes
 LINES = [
     # document 01's three lines: file 1 is one reserved hole of 512
     (OK, on(1, allocate(0, BLOCK))),
@@ -211,10 +227,17 @@ LINES = [
             seek(2047, DATA), seek(2048, HOLE))),
     (NOFILEHANDLE, compound(seek(0, 2, OTHER))),
     (BAD_STATEID, on(0, seek(0, 2, OTHER))),
+    (UNION_NOTSUPP, on(0, seek(2049, 2))),  # at the size
     (UNION_NOTSUPP, on(0, seek(LAST, 2))),  # before NXIO
-    (NXIO, on(0, seek(2049, HOLE))),  # at the size
-    (NXIO, on(3, seek(0, DATA))),  # an empty file
+    (NXIO, on(0, seek(2049, HOLE), seek(2050, HOLE))),  # past the size
+    (NXIO, on(0, seek(2049, DATA), seek(LAST, DATA))),
+    (NXIO, on(3, seek(0, HOLE), seek(1, HOLE))),  # an empty file
     (BADXDR, cut(on(0, seek(0, DATA)), 1)),
+
+    # walks over a sparse file, an empty one and one that ends in data
+    *walk(0, (DATA, 1024), (HOLE, 1024), (DATA, 1)),
+    *walk(3),
+    *walk(1, (DATA, 512)),
 
     # COPY
     (NOFILEHANDLE, on(0, copy(0, 0, 0, OTHER))),  # no saved handle
@@ -265,6 +288,7 @@ LINES = [
     (OK, on(1, deallocate(1536, 1), deallocate(LAST - 1, 1), read_plus(0, 2048))),  # past the size
     (OK, on(1, deallocate(511, 514), read(508, 8), read_plus(0, 2048))),  # two edges and a middle
     (OK, on(1, deallocate(1024, LAST - 1024), read_plus(0, 2048), seek(0, HOLE))),  # cut at the size
+    *walk(1, (DATA, 512), (HOLE, 1024)),  # it ends in a hole
     (OK, on(3, deallocate(2, 510), read(0, 4), deallocate(2000, 48), read_plus(1024, 2048))),  # a shared edge; a hole
     (OK, compound(putfh(0), read(508, 4), putfh(3), read(508, 4))),  # the other holder is unchanged
     (OK, on(3, deallocate(2048, 1), read_plus(1, 2048), deallocate(0, 1024), seek(0, DATA))),  # the last slot, uneven
@@ -334,7 +358,7 @@ def coverage(answers):
     seen, faults = collections.defaultdict(collections.Counter), []
     if len(answers) != len(LINES):
         faults.append(f"{len(LINES)} lines, {len(answers)} answers")
-    for at, ((expected, _), answer) in enumerate(zip(LINES, answers), 1):
+    for at, ((expected, _, *tail), answer) in enumerate(zip(LINES, answers), 1):
         if answer.startswith(b"-"):
             status = int(answer)
             seen["refused line"][status] += 1
@@ -348,6 +372,8 @@ def coverage(answers):
                 seen[name_of(operation)][result] += 1
         if status != expected:
             faults.append(f"line {at}: expected {expected}, answered {status}")
+        elif tail and not answer.endswith(tail[0].hex().encode()):
+            faults.append(f"line {at}: the answer doesn't end in {tail[0].hex()}")
     for name, statuses in REACHED.items():
         faults += [f"{name}: {status} not reached" for status in sorted(statuses - set(seen[name]))]
     for name in [*REACHED, *sorted(set(seen) - set(REACHED))]:
@@ -359,7 +385,7 @@ def coverage(answers):
 def main():
     if len(sys.argv) == 1:
         # The last line has no newline.
-        sys.stdout.buffer.write("\n".join(line for _, line in LINES).encode())
+        sys.stdout.buffer.write("\n".join(line for _, line, *_ in LINES).encode())
     elif len(sys.argv) == 3 and sys.argv[1] == "--coverage":
         sys.exit(not coverage(lines_of(sys.argv[2])))
     else:

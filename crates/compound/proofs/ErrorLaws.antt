@@ -119,11 +119,11 @@ module _ (g : Geometry) (p : Position) (st : Store) where
 
   module _ {sizes : List ℕ} (same : st .sizes ≡ sizes) where
     pub seek-first : (i : List ℕ) (o n : ℕ) {f e a r : ℕ} → f ≡ fileOf u → e ≡ first (reads u i) → a ≡ orElse e (cond (ltb 1 n) UNION-NOTSUPP 0)
-        → r ≡ orElse a (cond (leb (getD sizes f 0) o) NXIO 0) → r ≡ first (errors g x (SEEK i o n))
+        → r ≡ orElse a (cond (ltb (getD sizes f 0) o) NXIO 0) → r ≡ first (errors g x (SEEK i o n))
     unfolding errors
     seek-first i o n {f} file e a r =
-        let past : leb (getD sizes f 0) o ≡ leb (getD (st .sizes) (fileOf u) 0) o = rw (file, same) in
-        then-row (reads u i ++ ((ltb 1 n, UNION-NOTSUPP) ∷ [])) (leb (getD (st .sizes) (fileOf u) 0) o) NXIO refl
+        let past : ltb (getD sizes f 0) o ≡ ltb (getD (st .sizes) (fileOf u) 0) o = rw (file, same) in
+        then-row (reads u i ++ ((ltb 1 n, UNION-NOTSUPP) ∷ [])) (ltb (getD (st .sizes) (fileOf u) 0) o) NXIO refl
         (then-row (reads u i) (ltb 1 n) UNION-NOTSUPP refl e refl a) past r
 
     -- the source e and the target f, of which n bytes are meant

@@ -119,7 +119,7 @@ fn seek_error(sizes: &[u64], s: &[u8], a: ReadArgs, p: Position) -> u32
     let f = file_of(current);
     let e = reading_error(s, a.stateid, current);
     let e = or_if(e, 1 < a.count, Answer::UNION_NOTSUPP);
-    or_if(e, sizes[f] <= a.offset, Answer::NXIO)
+    or_if(e, sizes[f] < a.offset, Answer::NXIO)
 }
 
 fn write_error(g: Geometry, s: &[u8], a: WriteArgs, p: Position) -> u32

@@ -162,7 +162,7 @@ module _ {c : Call} {st : Store} {h : Header} {at : ℕ} (a : Accepted c st h at
   unfolding served
   number-is = ap (λ o. o .number) answer-is
 
-  stands : Stands (answer c st .reply) 0 reply
+  pub stands : Stands (answer c st .reply) 0 reply
   stands = record { rest = drop (length reply) (c .buffer); inside = omega arith; there = buffer-is }
 
   headBytes : List ℕ

@@ -13,11 +13,13 @@ use Rattle.rules.specs.Operation.{Header}
 use Rattle.rules.specs.Run.{State, Event}
 use Rattle.rules.specs.Calls.{fresh, lastStore, Call, Outcome, Gives, answer}
 use Rattle.rules.specs.Claim.{Ran, Entry, ranCall, serving, Each, machine, events, history, Says, Refused, InOrder, OK, lastSet, Edits, GivesBack, Between, Allocated, ReadAfter, ReadsBack, Claim}
+use Rattle.rules.specs.Seek.{SeekClaim}
 use Rattle.rules.proofs.BoolLaws.{and-left, and-right, and-both}
 use Rattle.rules.proofs.GeometryLaws.{Good, good, block-pos}
 use Rattle.rules.proofs.SoundStore.{Sound}
 use Rattle.rules.proofs.SoundLaws.{sound-facts, lengths-test, sound-test}
 use Rattle.rules.proofs.ChainLaws.{Step, Chain, nil, cons, step-before, chain-order, chain-end, chain-current, step-nospc, step-leaves, step-keeps, as-op, Has, step-has, allocated, write-ok, wrote-has, read-has}
+use Rattle.rules.proofs.SeekLaws.{step-seek}
 use Rattle.rules.proofs.AnswerLaws.{Accepted, Refusal, accepted-or-refused, refused-call, refused-number, zs, ran-is, events-are, accepted-chain, store-is, number-is, accepted-says}
 use Rattle.rules.proofs.ReplyLaws.{fresh-ready}
 
@@ -168,6 +170,13 @@ module _ (E : Entry) (F : Fulfils E) where
         nospc = λ z m. step-nospc g bd (trail-mem g bd (w .1) z m);
       }
 
+  -- of every SEEK reached
+  pub seeks-of : SeekClaim E
+  seeks-of g t fine gd cs os contracts keeps z m id off what f is passes =
+      let bd = good g fine in
+      let k = subst (Each E (λ c t o. o .number ≡ 0 → E .geometry c ≡ g) t cs) (trace-is t cs os contracts) keeps in
+      step-seek g bd id passes off what f (trail-mem g bd (trail g bd cs t gd k .1) z m) is
+
 -- ---- the entry that serves a compound
 
 gives-is : (want o : Outcome Store) → Gives want o → o ≡ want
@@ -230,3 +239,6 @@ serving-fulfils = record {
 
 pub promise : Claim serving
 promise = claim-of serving serving-fulfils
+
+pub seeks : SeekClaim serving
+seeks = seeks-of serving serving-fulfils

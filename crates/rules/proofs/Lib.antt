@@ -25,10 +25,14 @@ pub mod PlanLaws
 pub mod Points
 pub mod ReadLaws
 pub mod ReplyLaws
+pub mod RequestLaws
 pub mod Script
+pub mod SeekCall
 pub mod SeekLaws
 pub mod SoundLaws
 pub mod EditSteps
 pub mod SlotByteLaws
+pub mod WalkLaws
+pub mod WalkProof
 pub mod WriteLaws
 pub mod WrongServers

@@ -51,11 +51,17 @@ pub reached : (b end i : ℕ) → Reaches b end zero i → end ≤ i
 reached b end i (inl h) = h
 reached b end i (inr h) = omega (arith, div-add-mod' i b)
 
--- s + 1 slots reach every place of a file of s slots
-pub reaches-all : (b s end i : ℕ) → end ≤ s * b → Reaches b end (suc s) i
-reaches-all b s end i h = inr (le-trans h (mul-le-mul-right b more))
+-- s slots reach every place of a file of s slots, and so do s + 1
+pub reaches-slots : (b s end i : ℕ) → end ≤ s * b → Reaches b end s i
+reaches-slots b s end i h = inr (le-trans h (mul-le-mul-right b more))
   where
-    more : s ≤ i / b + suc s
+    more : s ≤ i / b + s
+    more = omega arith
+
+pub reaches-all : (b s end i : ℕ) → end ≤ s * b → Reaches b end (suc s) i
+reaches-all b s end i h = reaches-slots b (suc s) end i (le-trans h (mul-le-mul-right b more))
+  where
+    more : s ≤ suc s
     more = omega arith
 
 module _ {b : ℕ} (pos : 0 < b) where
@@ -64,6 +70,14 @@ module _ {b : ℕ} (pos : 0 < b) where
 
   pub same-slot : (i j : ℕ) → i ≤ j → j < (i / b + 1) * b → j / b ≡ i / b
   same-slot i j l u = omega (arith, div-le pos j (i / b) (omega arith), div-le pos i (j / b) (omega (arith, div-ge pos j (j / b) (le-refl _))))
+
+  -- from a later place on, too
+  pub reaches-later : (end k i j : ℕ) → i ≤ j → Reaches b end k i → Reaches b end k j
+  reaches-later end k i j l (inl h) = inl (omega arith)
+  reaches-later end k i j l (inr h) = inr (le-trans h (mul-le-mul-right b (far (div-le pos i (j / b) (omega (arith, div-ge pos j (j / b) (le-refl _)))))))
+    where
+      far : i / b ≤ j / b → i / b + k ≤ j / b + k
+      far h = omega arith
 
   pub reaches-slot : (end k i : ℕ) → i < end → Reaches b end (suc k) i → Reaches b end k ((i / b + 1) * b)
   reaches-slot end k i l (inl h) = absurd (omega arith)
@@ -128,12 +142,17 @@ module _ (g : Geometry) (pos : 0 < g .B) (st : Store) (f : ℕ) where
   unfolding byteAt
   hole-byte i e = rw e
 
-  pub laid-slot : (i n : ℕ) → i + n ≤ (i / g .B + 1) * g .B → laid g st f (record { hole = holeAt g st f i; start = i; size = n }) ≡ bytesFrom g st f i n
-  laid-slot i n h = go (holeAt g st f i) refl
+  -- a piece of one kind is the file's bytes
+  pub laid-piece : (p : Piece) → ((i : ℕ) → p .start ≤ i → i < p .start + p .size → holeAt g st f i ≡ p .hole) → laid g st f p ≡ bytesFrom g st f (p .start) (p .size)
+  laid-piece p same = go (p .hole) refl
     where
-      go : (t : Bool) → holeAt g st f i ≡ t → cond t (replicate n 0) (bytesFrom g st f i n) ≡ bytesFrom g st f i n
-      go true e = sym (tab-zeros n i) ∙ tab-ext (λ j. 0) (byteAt g st f) n i (λ j l u. sym (hole-byte j (same-kind i j l (omega arith) ∙ e)))
+      go : (t : Bool) → p .hole ≡ t → cond t (replicate (p .size) 0) (bytesFrom g st f (p .start) (p .size)) ≡ bytesFrom g st f (p .start) (p .size)
+      go true e =
+          sym (tab-zeros (p .size) (p .start)) ∙ tab-ext (λ j. 0) (byteAt g st f) (p .size) (p .start) (λ j l u. sym (hole-byte j (same j l u ∙ e)))
       go false e = refl
+
+  pub laid-slot : (i n : ℕ) → i + n ≤ (i / g .B + 1) * g .B → laid g st f (record { hole = holeAt g st f i; start = i; size = n }) ≡ bytesFrom g st f i n
+  laid-slot i n h = laid-piece (record { hole = holeAt g st f i; start = i; size = n }) (λ j l u. same-kind i j l (omega arith))
 
   pieces-start : (end k i : ℕ) → StartsAt i (pieces g st f end k i)
   unfolding pieces

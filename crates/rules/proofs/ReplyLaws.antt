@@ -14,11 +14,11 @@ use Rattle.xdr.specs.Decode.{got}
 use Rattle.xdr.specs.Layout.{uint, bytes, opaqueData, _then_}
 use Rattle.xdr.proofs.EncodeLaws.{length-u32, length-opaque}
 use Rattle.xdr.proofs.RoundTrip.{Stands, stands-first, stands-rest}
-use Rattle.xdr.proofs.LayoutLaws.{uint-back, bytes-back, opaque-data-back, then-back}
+use Rattle.xdr.proofs.LayoutLaws.{ReadsBack, uint-back, bytes-back, opaque-data-back, then-back}
 use Rattle.rules.specs.Store.{Geometry, Store}
 use Rattle.rules.specs.Operation.{MINOR-VERS-MISMATCH, TOO-MANY-OPS, Item, op, bad, itemAt, items, Header}
 use Rattle.rules.specs.Run.{State, Config, config, Event, perform, reached}
-use Rattle.rules.specs.Calls.{fresh, headerStatus, compound, itemNumber, resultBytes, replyHead, replyBytes, lastStatus}
+use Rattle.rules.specs.Calls.{fresh, headerStatus, compound, itemNumber, resultLayout, resultBytes, replyHead, replyBytes, lastStatus}
 use Rattle.rules.specs.Claim.{Results}
 use Rattle.rules.proofs.GeometryLaws.{Good}
 use Rattle.rules.proofs.FirstLaws.{all-clear}
@@ -27,6 +27,26 @@ use Rattle.rules.proofs.ItemLaws.{Known, item-known, all-known}
 use Rattle.rules.proofs.SoundStore.{Sound}
 use Rattle.rules.proofs.OperationLaws.{Ready}
 use Rattle.rules.proofs.ChainLaws.{Chain, nil, cons, reached-chain, step-known}
+
+-- ---- the layouts of a reply's head and of a result read back what they write
+
+-- numbers of 32 bits, and a tag that is short
+abbrev pub HeadFits : ℕ × (List ℕ × ℕ) → Type 0
+HeadFits a = (a .0 < 2 ^ 32) × (((length (a .1 .0) ≤ 1024) × (length (a .1 .0) < 2 ^ 32)) × (a .1 .1 < 2 ^ 32))
+
+pub head-back : ReadsBack replyHead HeadFits
+head-back =
+    then-back uint (opaqueData 1024 then uint) (λ n. n < 2 ^ 32) (λ a. ((length (a .0) ≤ 1024) × (length (a .0) < 2 ^ 32)) × (a .1 < 2 ^ 32)) uint-back
+    (then-back (opaqueData 1024) uint (λ d. (length d ≤ 1024) × (length d < 2 ^ 32)) (λ n. n < 2 ^ 32) (opaque-data-back 1024) uint-back)
+
+-- numbers of 32 bits, and a body of n bytes
+abbrev pub ResultFits : ℕ → ℕ × (ℕ × List ℕ) → Type 0
+ResultFits n a = (a .0 < 2 ^ 32) × ((a .1 .0 < 2 ^ 32) × (length (a .1 .1) ≡ n))
+
+pub result-back : (n : ℕ) → ReadsBack (resultLayout n) (ResultFits n)
+result-back n =
+    then-back uint (uint then bytes n) (λ m. m < 2 ^ 32) (λ a. (a .0 < 2 ^ 32) × (length (a .1) ≡ n)) uint-back
+    (then-back uint (bytes n) (λ m. m < 2 ^ 32) (λ d. length d ≡ n) uint-back (bytes-back n))
 
 -- at the start of a compound no handle is set
 none≢some : (f : ℕ) → _≡_ {A = Option ℕ} none (some f) → ⊥
@@ -112,9 +132,7 @@ module _ (g : Geometry) (bd : Good g) where
       let size : at + length (resultBytes z) + length (concatMap resultBytes zs) ≡ at + length (resultBytes z ++ concatMap resultBytes zs)
       = omega (arith, length-append (resultBytes z) (concatMap resultBytes zs)) in (
         at + length (resultBytes z),
-        then-back uint (uint then bytes n) (λ m. m < 2 ^ 32) (λ y. (y .0 < 2 ^ 32) × (length (y .1) ≡ n)) uint-back
-            (then-back uint (bytes n) (λ m. m < 2 ^ 32) (λ d. length d ≡ n) uint-back (bytes-back n))
-            (itemNumber (z .item), (z .status, z .body)) (omega (arith, k .number), (omega (arith, k .status), refl)) s at
+        result-back n (itemNumber (z .item), (z .status, z .body)) (omega (arith, k .number), (omega (arith, k .status), refl)) s at
             (stands-first (resultBytes z) (concatMap resultBytes zs) w),
         rw (← size) rest,
       )
@@ -122,10 +140,7 @@ module _ (g : Geometry) (bd : Good g) where
 -- status, tag and number of results
 pub head-read : (s : List ℕ) (status : ℕ) (tag : List ℕ) (n : ℕ) → status ≤ 10090 → length tag ≤ 1024 → n ≤ 12 → Stands s 0 (replyHead .write (status, (tag, n)))
     → replyHead .read s 0 ≡ got (status, (tag, n)) (0 + length (replyHead .write (status, (tag, n))))
-head-read s status tag n hs ht hn w =
-    then-back uint (opaqueData 1024 then uint) (λ m. m < 2 ^ 32) (λ y. ((length (y .0) ≤ 1024) × (length (y .0) < 2 ^ 32)) × (y .1 < 2 ^ 32)) uint-back
-    (then-back (opaqueData 1024) uint (λ d. (length d ≤ 1024) × (length d < 2 ^ 32)) (λ m. m < 2 ^ 32) (opaque-data-back 1024) uint-back)
-    (status, (tag, n)) (omega arith, ((ht, omega arith), omega arith)) s 0 w
+head-read s status tag n hs ht hn w = head-back (status, (tag, n)) (omega arith, ((ht, omega arith), omega arith)) s 0 w
 
 -- the status of the last event
 pub last-status : (a : ℕ) (pre : List Event) (z : Event) → lastStatus a (pre ++ (z ∷ [])) ≡ z .status

@@ -1,39 +1,103 @@
--- SEEK's answer: the place is the first from the offset on that is of the kind asked for, or the size; eof says which.
+-- SEEK's answer: the place is the first from the offset on that is of the kind asked for, or the size; eof says which. At the size it is the size, and
+-- past it NXIO.
 use Prim.Native.Nat.{ℕ, suc, _*_, _≤_, _<_}
-use mathlib.Core.Path.{_≡_, refl}
-use mathlib.Core.Bool.{Bool, true, not}
-use mathlib.Core.Logic.{_↔_}
+use mathlib.Core.Path.{_≡_, refl, sym, ap, _∙_}
+use mathlib.Core.Bool.{Bool, true}
+use mathlib.Core.Option.{some}
+use mathlib.Core.List.{List}
 use native.Mathlib.Omega.{arith}
-use borrow.Author.Tests.{eqb-true, eq-eqb}
+use borrow.Author.Tests.{eqb-true, eq-eqb, lt-ltb, le-ltb}
 use lib.Dec.{eqb}
-use Rattle.rules.specs.Store.{Geometry, Store, sizeOf}
-use Rattle.rules.specs.Read.{holeAt, seekPlace}
-use Rattle.rules.specs.Operation.{seekResult, seekReply}
+use Rattle.rules.specs.Lists.{first}
+use Rattle.rules.specs.Store.{Geometry, Store, sizeOf, need}
+use Rattle.rules.specs.Read.{seekPlace}
+use Rattle.rules.specs.Operation.{NXIO, UNION-NOTSUPP, SEEK, seekResult, seekReply}
+use Rattle.rules.specs.Run.{State, fileOf, readStateid, errors, config, does, effect, body, Event}
+use Rattle.rules.specs.Claim.{Is}
+use Rattle.rules.specs.Seek.{Finds, SeekRight}
+use Rattle.rules.proofs.GeometryLaws.{Good, block-pos}
 use Rattle.rules.proofs.ReadLaws.{reaches-all, seek-first}
+use Rattle.rules.proofs.BodyLaws.{any-file}
+use Rattle.rules.proofs.OperationLaws.{Ready, Performed, refused, nospc, done}
+use Rattle.rules.proofs.ChainLaws.{Step, as-op}
 
--- a hole is asked for where `what` is 1
-pub record SeekRight (g : Geometry) (st : Store) (f off what : ℕ) : Type 0 where
-  pub place : ℕ
-  pub eof : Bool
-  pub body : seekReply g st f off what ≡ seekResult .write (eof, place)
-  pub from : off ≤ place
-  pub to : place ≤ sizeOf st f
-  pub between : (i : ℕ) → off ≤ i → i < place → holeAt g st f i ≡ not (eqb what 1)
-  pub found : place < sizeOf st f → holeAt g st f place ≡ eqb what 1
-  pub at-end : (eof ≡ true) ↔ (place ≡ sizeOf st f)
+-- ---- the place
 
-pub seek-right : (g : Geometry) → 0 < g .B → (st : Store) (f : ℕ) → sizeOf st f ≤ g .S * g .B → (off what : ℕ) → off ≤ sizeOf st f → SeekRight g st f off what
-unfolding seekReply
-seek-right g pos st f fits off what l =
-    let r = seek-first g pos st f (eqb what 1) (suc (g .S)) off (reaches-all (g .B) (g .S) (sizeOf st f) off fits) in
-    let p : ℕ = seekPlace g st f (eqb what 1) off in
-    record {
-      place = p;
-      eof = eqb p (sizeOf st f);
-      body = refl;
-      from = omega (arith, r .from);
-      to = r .to;
-      between = r .before;
-      found = r .here;
-      at-end = (eqb-true p (sizeOf st f), eq-eqb p (sizeOf st f));
-    }
+module _ (g : Geometry) (pos : 0 < g .B) (st : Store) (f : ℕ) (fits : sizeOf st f ≤ g .S * g .B) (hole : Bool) (off : ℕ) (l : off ≤ sizeOf st f) where
+  pub seek-finds : Finds g st f off hole (eqb (seekPlace g st f hole off) (sizeOf st f)) (seekPlace g st f hole off)
+  seek-finds =
+      let r = seek-first g pos st f hole (suc (g .S)) off (reaches-all (g .B) (g .S) (sizeOf st f) off fits) in
+      let p : ℕ = seekPlace g st f hole off in
+      record {
+        from = omega (arith, r .from);
+        to = r .to;
+        between = r .before;
+        found = r .here;
+        at-end = (eqb-true p (sizeOf st f), eq-eqb p (sizeOf st f));
+      }
+
+-- ---- the errors
+
+module _ (g : Geometry) (x : State) (f : ℕ) (current : x .current ≡ some f) (id : List ℕ) (id-passes : readStateid id ≡ true) (off what : ℕ) where
+  pub seek-neither : 1 < what → first (errors g x (SEEK id off what)) ≡ UNION-NOTSUPP
+  unfolding errors
+  seek-neither h = rw (current, id-passes, lt-ltb 1 what h)
+
+  pub seek-past : what ≤ 1 → sizeOf (x .store) f < off → first (errors g x (SEEK id off what)) ≡ NXIO
+  unfolding errors
+  seek-past h l = rw (current, id-passes, le-ltb 1 what h, lt-ltb (sizeOf (x .store) f) off l)
+
+  pub seek-passes : what ≤ 1 → off ≤ sizeOf (x .store) f → first (errors g x (SEEK id off what)) ≡ 0
+  unfolding errors
+  seek-passes h l = rw (current, id-passes, le-ltb 1 what h, le-ltb (sizeOf (x .store) f) off l)
+
+  -- it changes nothing
+  pub seek-effect : effect g x (SEEK id off what) ≡ x
+  unfolding effect does
+  seek-effect = refl
+
+  pub seek-body : (v : List ℕ) → body g v x (SEEK id off what) ≡ seekReply g (x .store) f off what
+  unfolding body does
+  seek-body v = ap (λ u. seekReply g (x .store) (fileOf u) off what) current
+
+  -- a file of a sound store, and the body as eof and a place
+  module _ (bd : Good g) (r : Ready g x) (v : List ℕ) (l : off ≤ sizeOf (x .store) f) where
+    place : ℕ
+    place = seekPlace g (x .store) f (eqb what 1) off
+
+    finds : Finds g (x .store) f off (eqb what 1) (eqb place (sizeOf (x .store) f)) place
+    unfolding place
+    finds = seek-finds g (block-pos bd) (x .store) f (any-file g (x .store) (r .sound) f) (eqb what 1) off l
+
+    shown : body g v x (SEEK id off what) ≡ seekResult .write (eqb place (sizeOf (x .store) f), place)
+    unfolding place seekReply
+    shown = seek-body v
+
+    shown-end : off ≡ sizeOf (x .store) f → body g v x (SEEK id off what) ≡ seekResult .write (true, off)
+    shown-end e =
+        let same : place ≡ off = omega (arith, finds .from, finds .to) in
+        shown ∙ ap (λ b. seekResult .write (b, place)) (eq-eqb place (sizeOf (x .store) f) (same ∙ e)) ∙ ap (λ p. seekResult .write (true, p)) same
+
+-- ---- a SEEK reached
+
+module _ (g : Geometry) (bd : Good g) (id : List ℕ) (id-passes : readStateid id ≡ true) (off what f : ℕ) where
+  performed-seek : {v : List ℕ} {x : State} {next : ℕ} {z : Event} → Performed (config g v) x (SEEK id off what) next z → Ready g x → x .current ≡ some f → SeekRight g f off what z
+  performed-seek {x = x} (refused e h) r c = record {
+    neither = λ w. sym h ∙ seek-neither g x f c id id-passes off what w;
+    past = λ w l. sym h ∙ seek-past g x f c id id-passes off what w l;
+    finds = λ w l. absurd (omega (arith, h, seek-passes g x f c id id-passes off what w l));
+    at-size = λ w l. absurd (omega (arith, h, seek-passes g x f c id id-passes off what w (omega (arith, l))));
+    keeps = refl;
+  }
+  performed-seek {x = x} (nospc h l) r c =
+      absurd (omega (arith, l, r .sound .room, ap (λ y. need (y .store .words)) (seek-effect g x f c id id-passes off what)))
+  performed-seek {v} {x} (done h l) r c = record {
+    neither = λ w. absurd (omega (arith, h, seek-neither g x f c id id-passes off what w));
+    past = λ w l. absurd (omega (arith, h, seek-past g x f c id id-passes off what w l));
+    finds = λ w l. (refl, _, _, shown g x f c id id-passes off what bd r v l, finds g x f c id id-passes off what bd r v l);
+    at-size = λ w e. (refl, shown-end g x f c id id-passes off what bd r v (omega (arith, e)) e);
+    keeps = seek-effect g x f c id id-passes off what;
+  }
+
+  pub step-seek : {z : Event} → Step g z → Is z (SEEK id off what) f → SeekRight g f off what z
+  step-seek s w = let a = as-op g bd s (w .0 .1) in performed-seek (a .how) (a .ready) (w .1)

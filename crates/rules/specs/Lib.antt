@@ -7,3 +7,4 @@ pub mod Run
 pub mod Calls
 pub mod Line
 pub mod Claim
+pub mod Seek

@@ -75,7 +75,7 @@ uneven g st s soff off n =
 -- ---- the errors of an operation that was read, in order. BADXDR and NOTSUPP came before, where it was read; NOSPC comes last, where its
 -- effect is judged.
 
--- handles are four bytes, the file's number (house); length 0 of ALLOCATE and DEALLOCATE is INVAL (house)
+-- handles are four bytes, the file's number (house); length 0 of ALLOCATE and DEALLOCATE is INVAL (house); SEEK at the size is no error (request K2)
 unfoldable pub errors : Geometry → State → Op → List (Bool × ℕ)
 errors g x GETFH = (noFile (x .current), NOFILEHANDLE) ∷ []
 errors g x SAVEFH = (noFile (x .current), NOFILEHANDLE) ∷ []
@@ -85,7 +85,7 @@ errors g x (READ i o n) = (noFile (x .current), NOFILEHANDLE) ∷ (not (readStat
 errors g x (READ-PLUS i o n) = (noFile (x .current), NOFILEHANDLE) ∷ (not (readStateid i), BAD-STATEID) ∷ []
 errors g x (SEEK i o what) =
     (noFile (x .current), NOFILEHANDLE) ∷ (not (readStateid i), BAD-STATEID)
-    ∷ (ltb 1 what, UNION-NOTSUPP) ∷ (leb (sizeOf (x .store) (fileOf (x .current))) o, NXIO) ∷ []
+    ∷ (ltb 1 what, UNION-NOTSUPP) ∷ (ltb (sizeOf (x .store) (fileOf (x .current))) o, NXIO) ∷ []
 errors g x (WRITE i o s d) =
     (noFile (x .current), NOFILEHANDLE) ∷ (not (zeroStateid i), BAD-STATEID) ∷ tooFar o (length d) ∷ tooBig g o (length d) ∷ []
 errors g x (ALLOCATE i o n) =

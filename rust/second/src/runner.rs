@@ -143,7 +143,7 @@ impl<'a> Runner<'a> {
             HOLE => Kind::Hole,
             _ => return Err(Status::UnionNotSupp),
         };
-        if offset >= view.size {
+        if offset > view.size {
             return Err(Status::Nxio);
         }
         let place = view.seek(offset, kind);

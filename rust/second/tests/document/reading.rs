@@ -145,6 +145,7 @@ fn seek_from_every_side() {
         (2047, 2048, 2047),
         (2048, 2048, 2400),
         (2399, 2399, 2400),
+        (2400, 2400, 2400),
     ] {
         assert_eq!(
             bench.on(0, seek(offset, 0)).1,
@@ -160,6 +161,39 @@ fn seek_from_every_side() {
     assert_eq!(bench.on(0, seek(2560, 0)).1, seek_body(true, 4096));
     assert_eq!(bench.on(0, seek(2400, 1)).1, seek_body(false, 2560));
     assert_eq!(bench.on(0, seek(4095, 1)).1, seek_body(false, 4095));
+    // An empty one.
+    assert_eq!(bench.on(1, seek(0, 0)).1, seek_body(true, 0));
+    assert_eq!(bench.on(1, seek(0, 1)).1, seek_body(true, 0));
+}
+
+/// The places that SEEK answers, asked for data and for a hole by turns, up to the first TRUE.
+fn walk(bench: &mut Bench, file: u32) -> Vec<u64> {
+    let mut places = vec![0];
+    for what in [0, 1].into_iter().cycle() {
+        let (status, body) = bench.on(file, seek(places[places.len() - 1], what));
+        assert_eq!(status, OK);
+        let place = u64::from_be_bytes(body[4..12].try_into().unwrap());
+        places.push(place);
+        if body == seek_body(true, place) {
+            break;
+        }
+        assert_eq!(body, seek_body(false, place));
+    }
+    places.split_off(1)
+}
+
+#[test]
+fn a_walk_ends_at_the_size() {
+    let mut bench = alternating();
+    assert_eq!(walk(&mut bench, 0), [0, 512, 1024, 1536, 2048, 2400]);
+    assert_eq!(walk(&mut bench, 1), [0]);
+    // One hole; a hole in front of data; a hole behind data.
+    assert_eq!(bench.status(1, allocate(0, 700)), OK);
+    assert_eq!(walk(&mut bench, 1), [700]);
+    assert_eq!(bench.status(1, write(600, b"x")), OK);
+    assert_eq!(walk(&mut bench, 1), [512, 700]);
+    assert_eq!(bench.status(1, allocate(1000, 600)), OK);
+    assert_eq!(walk(&mut bench, 1), [512, 1024, 1600]);
 }
 
 #[test]

@@ -238,14 +238,17 @@ fn clone_alignment() {
 fn seek_errors() {
     let mut bench = bench();
     for what in [2, 3, u32::MAX] {
-        assert_eq!(bench.status(0, seek(0, what)), 10090);
-        assert_eq!(bench.status(2, seek(0, what)), 10090);
+        for offset in [0, 700, 701] {
+            assert_eq!(bench.status(0, seek(offset, what)), 10090);
+            assert_eq!(bench.status(2, seek(offset, what)), 10090);
+        }
     }
     for what in [0, 1] {
-        assert_eq!(bench.status(0, seek(699, what)), OK);
-        assert_eq!(bench.status(0, seek(700, what)), 6);
+        assert_eq!(bench.status(0, seek(700, what)), OK);
+        assert_eq!(bench.status(0, seek(701, what)), 6);
         assert_eq!(bench.status(0, seek(u64::MAX, what)), 6);
-        assert_eq!(bench.status(2, seek(0, what)), 6);
+        assert_eq!(bench.status(2, seek(0, what)), OK);
+        assert_eq!(bench.status(2, seek(1, what)), 6);
     }
 }
 

@@ -1,0 +1,111 @@
+-- What SEEK answers, and a client's walk over a file by SEEK (document 01, "Reading", with request K2; RFC 7862, 15.11).
+use Prim.Native.Nat.{ℕ, zero, suc, _+_, _-_, _≤_, _<_}
+use mathlib.Core.Path.{_≡_}
+use mathlib.Core.Bool.{Bool, true, false, cond, not}
+use mathlib.Core.Option.{Option, none, some}
+use mathlib.Core.List.{List, [], _∷_, List·Memᴰ}
+use mathlib.Core.Logic.{_↔_, _⊎_}
+use lib.ListN.{length}
+use lib.Dec.{eqb}
+use Rattle.xdr.specs.Encode.{u32, concatMap}
+use Rattle.xdr.specs.Decode.{got, fault}
+use Rattle.xdr.specs.Layout.{Layout, uint, _then_}
+use Rattle.rules.specs.Store.{Geometry, goodGeometry, Store, goodLengths, sizeOf, content, sound}
+use Rattle.rules.specs.Read.{holeAt, Piece}
+use Rattle.rules.specs.Operation.{NXIO, UNION-NOTSUPP, PUTFH, SEEK, requestBytes, seekResult}
+use Rattle.rules.specs.Run.{zeroId, readStateid, Config, Event}
+use Rattle.rules.specs.Calls.{resultLayout, replyHead, Call, Outcome, answer}
+use Rattle.rules.specs.Claim.{Entry, Each, history, OK, Is, laid, Follow, Alternate}
+
+-- ---- the answer
+
+-- eof and a place found from place `off` of file f on: the first of the kind asked for, or the size; eof says which
+pub record Finds (g : Geometry) (st : Store) (f off : ℕ) (hole eof : Bool) (place : ℕ) : Type 0 where
+  pub from : off ≤ place
+  pub to : place ≤ sizeOf st f
+  pub between : (i : ℕ) → off ≤ i → i < place → holeAt g st f i ≡ not hole
+  pub found : place < sizeOf st f → holeAt g st f place ≡ hole
+  pub at-end : (eof ≡ true) ↔ (place ≡ sizeOf st f)
+
+-- z is a SEEK in file f from place `off` on, with a stateid that passes; `what` is 0 for data and 1 for a hole
+pub record SeekRight (g : Geometry) (f off what : ℕ) (z : Event) : Type 0 where
+  pub neither : 1 < what → z .status ≡ UNION-NOTSUPP
+  pub past : what ≤ 1 → sizeOf (z .before .store) f < off → z .status ≡ NXIO
+  pub finds : what ≤ 1 → off ≤ sizeOf (z .before .store) f
+      → OK z × (eof : Bool) × (place : ℕ) × (z .body ≡ seekResult .write (eof, place)) × Finds g (z .before .store) f off (eqb what 1) eof place
+  pub at-size : what ≤ 1 → off ≡ sizeOf (z .before .store) f → OK z × (z .body ≡ seekResult .write (true, off))
+  pub keeps : z .after ≡ z .before
+
+-- of every SEEK that a list of calls reaches, as in the claim
+abbrev pub SeekClaim : Entry → Type 0
+SeekClaim E = (g : Geometry) (t : E .Tables) → goodGeometry g ≡ true → E .good g t ≡ true → (cs : List (E .Given)) (os : List (Outcome (E .Tables)))
+    → Each E (E .Contract) t cs os → Each E (λ c t o. o .number ≡ 0 → E .geometry c ≡ g) t cs os
+    → (z : Event) → List·Memᴰ z (history E t cs) → (id : List ℕ) (off what f : ℕ) → Is z (SEEK id off what) f → readStateid id ≡ true → SeekRight g f off what z
+
+-- ---- the walk
+
+-- a client's call: a compound of PUTFH and SEEK
+abbrev pub seekCall : Config → List ℕ → ℕ → Bool → ℕ → Call
+seekCall c buffer f hole off = record { config = c; request = requestBytes [] (PUTFH (u32 f) ∷ SEEK zeroId off (cond hole 1 0) ∷ []); buffer = buffer }
+
+-- the reply to it: status, tag and number of results; PUTFH's result; SEEK's number, status, eof and place
+abbrev pub seekReplied : Layout ((ℕ × (List ℕ × ℕ)) × ((ℕ × (ℕ × List ℕ)) × (ℕ × (ℕ × (Bool × ℕ)))))
+seekReplied = replyHead then resultLayout 0 then uint then uint then seekResult
+
+-- eof and the place, as the client reads them where the status is OK
+abbrev pub sought : List ℕ → Option (Bool × ℕ)
+sought reply = elim (seekReplied .read reply 0) [ got r next ↦ cond (eqb (r .0 .0) 0) (some (r .1 .1 .1 .1)) none | fault p ↦ none ]
+
+-- The walk: SEEK for data and for a hole by turns, each from the place that the one before answered, up to the first TRUE. Its answers; k bounds
+-- their number.
+unfoldable pub walk : Config → List ℕ → ℕ → ℕ → Store → Bool → ℕ → List (Bool × ℕ)
+walk c buffer f zero st hole off = []
+walk c buffer f (suc k) st hole off =
+    let o = answer (seekCall c buffer f hole off) st in
+    elim (sought (o .reply)) [ none ↦ [] | some a ↦ a ∷ cond (a .0) [] (walk c buffer f k (o .store) (not hole) (a .1)) ]
+
+-- the ranges between the places asked from and answered, each of the kind that was not asked for; one without a byte is left out
+abbrev pub ranges : Bool → ℕ → List (Bool × ℕ) → List Piece
+ranges hole off [] = []
+ranges hole off (a ∷ rest) = cond (eqb (a .1) off) (ranges (not hole) (a .1) rest)
+    (record { hole = not hole; start = off; size = a .1 - off } ∷ ranges (not hole) (a .1) rest)
+
+-- the first TRUE is the last answer, and its place is n
+abbrev pub EndsAt : ℕ → List (Bool × ℕ) → Type 0
+EndsAt n [] = ⊥
+EndsAt n (a ∷ rest) = ((a ≡ (true, n)) × (rest ≡ [])) ⊎ ((a .0 ≡ false) × EndsAt n rest)
+
+-- where pieces from place i on end
+abbrev pub endOf : ℕ → List Piece → ℕ
+endOf i [] = i
+endOf i (p ∷ ps) = endOf (p .start + p .size) ps
+
+-- ps are file f's data and holes in order
+pub record DataAndHoles (g : Geometry) (st : Store) (f : ℕ) (ps : List Piece) : Type 0 where
+  pub starts : Follow 0 ps
+  pub ends : endOf 0 ps ≡ sizeOf st f
+  pub none-empty : (p : Piece) → List·Memᴰ p ps → 1 ≤ p .size
+  pub kinds : (p : Piece) → List·Memᴰ p ps → (i : ℕ) → p .start ≤ i → i < p .start + p .size → holeAt g st f i ≡ p .hole
+  pub alternate : Alternate ps
+
+pub record WalkRight (g : Geometry) (st : Store) (f : ℕ) (answers : List (Bool × ℕ)) : Type 0 where
+  -- it reaches the size; in an empty file by its first SEEK
+  pub ends : EndsAt (sizeOf st f) answers
+  pub empty : sizeOf st f ≡ 0 → answers ≡ (true, 0) ∷ []
+  -- its ranges; with zeros for the holes they are the file's bytes
+  pub in-order : DataAndHoles g st f (ranges false 0 answers)
+  pub laid : concatMap (laid g st f) (ranges false 0 answers) ≡ content g st f
+
+-- what a walk is given: a geometry, a verifier and a reply buffer that pass, a sound store and a file of it
+pub record WalkGiven (c : Config) (buffer : List ℕ) (st : Store) (f : ℕ) : Type 0 where
+  pub geometry : goodGeometry (c .geometry) ≡ true
+  pub verifier : length (c .verifier) ≡ 8
+  pub room : 32768 ≤ length buffer
+  pub lengths : goodLengths (c .geometry) st ≡ true
+  pub sound : sound (c .geometry) st ≡ true
+  pub file : f < c .geometry .F
+
+-- the first SEEK is for data, from place 0 on; one for each slot and one more are enough
+abbrev pub WalkClaim : Type 0
+WalkClaim = (c : Config) (buffer : List ℕ) (st : Store) (f : ℕ) → WalkGiven c buffer st f
+    → WalkRight (c .geometry) st f (walk c buffer f (suc (c .geometry .S)) st false 0)

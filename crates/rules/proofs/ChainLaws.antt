@@ -15,7 +15,7 @@ use Rattle.rules.specs.Store.{Geometry, Store, sizeOf, wordOf, need, fit
 use Rattle.rules.specs.Edit.{Edit}
 use Rattle.rules.specs.Read.{atEnd}
 use Rattle.rules.specs.Operation.{NOSPC, Op, READ, READ-PLUS, WRITE, ALLOCATE, opNumber, Item, op, bad, readResult, readPlusReply}
-use Rattle.rules.specs.Run.{State, noFile, fileOf, zeroId, errors, config, does, editOf, effect, body, Event, failed, countedAfter, perform, reached}
+use Rattle.rules.specs.Run.{State, noFile, fileOf, zeroId, errors, Config, config, does, editOf, effect, body, Event, failed, countedAfter, perform, reached}
 use Rattle.rules.specs.Calls.{itemNumber, resultBytes, lastStore}
 use Rattle.rules.specs.Claim.{InOrder, OK, Current, setsCurrent, lastSet, editDone, arrayAfter, Leaves, SlotOf, Edits, GivesBack, ReadsBack, NospcExactly}
 use Rattle.rules.proofs.GeometryLaws.{Good, file-small}
@@ -46,6 +46,14 @@ op≢bad p = let z : _≡_ {A = ℕ} 0 1 = cc in omega arith
 
 pub not-empty : (pre : List Event) (z : Event) (post : List Event) → [] ≡ pre ++ (z ∷ post) → ⊥
 not-empty pre z post e = omega (arith, ap length e, length-append pre (z ∷ post))
+
+-- behind an operation that is answered OK the rest is reached
+pub reached-on : (c : Config) (x : State) (o : Op) (next : ℕ) (rest : List Item) (z : Event) → perform c x o next ≡ z → z .status ≡ 0
+    → reached c x (op o next ∷ rest) ≡ z ∷ reached c (z .after) rest
+unfolding reached
+reached-on c x o next rest z e ok =
+    ap (λ y. elim (y .status) [ zero ↦ y ∷ reached c (y .after) rest | suc e ↦ y ∷ [] ]) e
+    ∙ ap (λ s. elim s [ zero ↦ z ∷ reached c (z .after) rest | suc e ↦ z ∷ [] ]) ok
 
 module _ (g : Geometry) (bd : Good g) where
   wide : 512 ≤ g .B

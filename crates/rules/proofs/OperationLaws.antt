@@ -6,7 +6,7 @@ use mathlib.Core.Option.{Option, none, some}
 use mathlib.Core.List.{List, [], _++_}
 use mathlib.Core.Logic.{_≢_}
 use native.Mathlib.Omega.{arith}
-use borrow.Author.Tests.{leb-true, leb-false, lt-leb, le-ltb}
+use borrow.Author.Tests.{leb-true, leb-false, lt-leb, le-leb, le-ltb}
 use lib.ListN.{length, getD, take, drop, length-take, length-drop}
 use lib.Seq.{ext-getD, getD-take, getD-drop}
 use lib.Dec.{eqb}
@@ -342,6 +342,12 @@ performed c x o next = go (first (errors g x o)) refl
     go : (n : ℕ) → first (errors g x o) ≡ n → Performed c x o next (perform c x o next)
     go zero h = rw (h, perform) (room h (fitsPool (g .N) (countedAfter g x o)) refl)
     go (suc e) h = rw (h, perform) (refused e h)
+
+-- without error and with room
+pub perform-done : (c : Config) (x : State) (o : Op) (next : ℕ) → first (errors (c .geometry) x o) ≡ 0 → need (countedAfter (c .geometry) x o) ≤ c .geometry .N
+    → perform c x o next ≡ record { item = op o next; before = x; status = 0; after = effect (c .geometry) x o; body = body (c .geometry) (c .verifier) x o }
+unfolding perform
+perform-done c x o next h room = rw (h, perform) (rw (le-leb _ _ room))
 
 -- its parts, whichever it is
 module _ {c : Config} {x : State} {o : Op} {next : ℕ} where

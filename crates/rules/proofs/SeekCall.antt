@@ -1,12 +1,12 @@
 -- A client's call of PUTFH and SEEK: it is served, leaves the store, and its reply, read, has SEEK's eof and place.
-use Prim.Native.Nat.{ℕ, zero, suc, _+_, _-_, _^_, _≤_, _<_}
+use Prim.Native.Nat.{ℕ, _+_, _-_, _^_, _≤_, _<_}
 use mathlib.Core.Path.{_≡_, refl, ap, _∙_, subst}
 use mathlib.Core.Bool.{Bool, true, false, cond}
 use mathlib.Core.Option.{none, some}
 use mathlib.Core.List.{List, [], _∷_, append-nil}
 use native.Mathlib.Nat.{mod-eq-of-lt}
 use native.Mathlib.Omega.{arith}
-use borrow.Author.Tests.{lt-leb, le-leb, le-ltb}
+use borrow.Author.Tests.{lt-leb, le-ltb}
 use lib.ListN.{length, length-append}
 use lib.Dec.{eqb}
 use Rattle.xdr.specs.Encode.{u32}
@@ -15,35 +15,21 @@ use Rattle.xdr.specs.Layout.{uint, boolean, hyper, _then_}
 use Rattle.xdr.proofs.EncodeLaws.{length-u32, length-u64, length-opaque, value-be}
 use Rattle.xdr.proofs.RoundTrip.{Stands}
 use Rattle.xdr.proofs.LayoutLaws.{ReadsBack, uint-back, hyper-back, boolean-back, then-back}
-use Rattle.rules.specs.Lists.{first}
-use Rattle.rules.specs.Store.{Store, sizeOf, need, sound}
+use Rattle.rules.specs.Store.{Store, sizeOf, sound}
 use Rattle.rules.specs.Read.{seekPlace}
-use Rattle.rules.specs.Operation.{Op, PUTFH, SEEK, opBytes, Item, op, Header, headerLayout, requestBytes, seekResult, seekReply}
-use Rattle.rules.specs.Run.{State, zeroId, errors, Config, does, effect, body, Event, countedAfter, perform, reached}
+use Rattle.rules.specs.Operation.{Op, PUTFH, SEEK, opBytes, op, Header, headerLayout, requestBytes, seekResult, seekReply}
+use Rattle.rules.specs.Run.{State, zeroId, errors, Config, does, effect, body, Event, perform, reached}
 use Rattle.rules.specs.Calls.{fresh, compound, resultLayout, resultBytes, lastStatus, lastStore, replyHead, replyBytes, Call, refusal, answer}
 use Rattle.rules.specs.Seek.{seekCall, seekReplied, sought, WalkGiven}
 use Rattle.rules.proofs.GeometryLaws.{Good, good, block-pos, file-small}
 use Rattle.rules.proofs.SoundStore.{Sound}
 use Rattle.rules.proofs.SoundLaws.{sound-facts}
+use Rattle.rules.proofs.OperationLaws.{perform-done}
+use Rattle.rules.proofs.ChainLaws.{reached-on}
 use Rattle.rules.proofs.SeekLaws.{seek-finds, seek-passes, seek-body}
 use Rattle.rules.proofs.ReplyLaws.{HeadFits, head-back, ResultFits, result-back}
 use Rattle.rules.proofs.RequestLaws.{putfh-back, seek-back, header-back, request-items}
 use Rattle.rules.proofs.AnswerLaws.{Accepted, stands, store-is}
-
--- ---- an operation without error that has room
-
-perform-done : (c : Config) (x : State) (o : Op) (next : ℕ) → first (errors (c .geometry) x o) ≡ 0 → need (countedAfter (c .geometry) x o) ≤ c .geometry .N
-    → perform c x o next ≡ record { item = op o next; before = x; status = 0; after = effect (c .geometry) x o; body = body (c .geometry) (c .verifier) x o }
-unfolding perform
-perform-done c x o next h room = rw (h, perform) (rw (le-leb _ _ room))
-
--- and then the rest is reached
-reached-on : (c : Config) (x : State) (o : Op) (next : ℕ) (rest : List Item) (z : Event) → perform c x o next ≡ z → z .status ≡ 0
-    → reached c x (op o next ∷ rest) ≡ z ∷ reached c (z .after) rest
-unfolding reached
-reached-on c x o next rest z e ok =
-    ap (λ y. elim (y .status) [ zero ↦ y ∷ reached c (y .after) rest | suc e ↦ y ∷ [] ]) e
-    ∙ ap (λ s. elim s [ zero ↦ z ∷ reached c (z .after) rest | suc e ↦ z ∷ [] ]) ok
 
 -- ---- the reply that a client reads
 

@@ -43,13 +43,13 @@ module _ (g : Geometry) (x : State) (f : ℕ) (current : x .current ≡ some f) 
   unfolding errors
   seek-neither h = rw (current, id-passes, lt-ltb 1 what h)
 
-  pub seek-past : what ≤ 1 → sizeOf (x .store) f < off → first (errors g x (SEEK id off what)) ≡ NXIO
-  unfolding errors
-  seek-past h l = rw (current, id-passes, le-ltb 1 what h, lt-ltb (sizeOf (x .store) f) off l)
-
   pub seek-passes : what ≤ 1 → off ≤ sizeOf (x .store) f → first (errors g x (SEEK id off what)) ≡ 0
   unfolding errors
   seek-passes h l = rw (current, id-passes, le-ltb 1 what h, le-ltb (sizeOf (x .store) f) off l)
+
+  pub seek-past : what ≤ 1 → sizeOf (x .store) f < off → first (errors g x (SEEK id off what)) ≡ NXIO
+  unfolding errors
+  seek-past h l = rw (current, id-passes, le-ltb 1 what h, lt-ltb (sizeOf (x .store) f) off l)
 
   -- it changes nothing
   pub seek-effect : effect g x (SEEK id off what) ≡ x

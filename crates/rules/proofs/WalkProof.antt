@@ -15,7 +15,7 @@ use Rattle.rules.specs.Read.{holeAt, seekPlace}
 use Rattle.rules.specs.Run.{Config}
 use Rattle.rules.specs.Calls.{answer}
 use Rattle.rules.specs.Claim.{Unlike}
-use Rattle.rules.specs.Seek.{Finds, seekCall, walk, ranges, EndsAt, WalkGiven, WalkClaim}
+use Rattle.rules.specs.Seek.{Finds, seekCall, walk, ranges, EndsAt, WalkRight, WalkGiven, WalkClaim}
 use Rattle.rules.proofs.GeometryLaws.{block-pos}
 use Rattle.rules.proofs.ReadLaws.{Reaches, reached, reaches-slot, reaches-later, reaches-slots, same-kind}
 use Rattle.rules.proofs.SeekLaws.{seek-finds}
@@ -133,28 +133,33 @@ module _ (c : Config) (buffer : List ℕ) (st : Store) (f : ℕ) (h : WalkGiven 
   walk-from (suc k) hole i l kind r = from-right hole i l kind (suc k)
       (λ u. walk-from k (not hole) (place hole i) u (finds hole i (low hole i l kind) .found u ∙ sym (Bool·not-not hole)) (reach hole i l kind (suc k) r u))
 
-  -- ---- the whole walk: the first SEEK is for data, from place 0
+  -- ---- the whole walk
 
   start : 0 ≤ n
   start = omega arith
 
-  goes-on : (s : ℕ) → n ≤ s * g .B → place false 0 < n → From true (place false 0) (answers s true (place false 0))
-  goes-on zero most u = absurd (omega (arith, most, u))
-  goes-on (suc k) most u = walk-from k true (place false 0) u (finds false 0 start .found u) (reaches-slots (g .B) (suc k) n (place false 0) most)
+  module _ (hole : Bool) where
+    goes-on : (s : ℕ) → n ≤ s * g .B → place hole 0 < n → From (not hole) (place hole 0) (answers s (not hole) (place hole 0))
+    goes-on zero most u = absurd (omega (arith, most, u))
+    goes-on (suc k) most u =
+        walk-from k (not hole) (place hole 0) u (finds hole 0 start .found u ∙ sym (Bool·not-not hole)) (reaches-slots (g .B) (suc k) n (place hole 0) most)
 
-  whole : Covers g pos st f 0 (ranges false 0 (answers (suc (g .S)) false 0))
-  whole = from-covers false 0 start (g .S) (goes-on (g .S) fits)
+    whole : Covers g pos st f 0 (ranges hole 0 (answers (suc (g .S)) hole 0))
+    whole = from-covers hole 0 start (g .S) (goes-on (g .S) fits)
 
-  at-once : n ≡ 0 → answers (suc (g .S)) false 0 ≡ (true, 0) ∷ []
-  at-once e =
-      let here : place false 0 ≡ 0 = omega (arith, finds false 0 start .to, e) in
-      let over : eof false 0 ≡ true = finds false 0 start .at-end .1 (here ∙ sym e) in
-      walk-step false 0 start (g .S) ∙ rw over (ap (λ m. (true, m) ∷ []) here)
+    at-once : n ≡ 0 → answers (suc (g .S)) hole 0 ≡ (true, 0) ∷ []
+    at-once e =
+        let here : place hole 0 ≡ 0 = omega (arith, finds hole 0 start .to, e) in
+        let over : eof hole 0 ≡ true = finds hole 0 start .at-end .1 (here ∙ sym e) in
+        walk-step hole 0 start (g .S) ∙ rw over (ap (λ m. (true, m) ∷ []) here)
+
+    walk-right : WalkRight g st f hole (answers (suc (g .S)) hole 0)
+    walk-right = record {
+      ends = from-ends hole 0 start (g .S) (goes-on (g .S) fits);
+      empty = at-once;
+      in-order = data-and-holes g pos st f _ whole;
+      laid = covers-laid g pos st f _ 0 whole ∙ ap (bytesFrom g st f 0) (sub-zero n);
+    }
 
 pub walks : WalkClaim
-walks c buffer st f h = record {
-  ends = from-ends c buffer st f h false 0 (start c buffer st f h) (c .geometry .S) (goes-on c buffer st f h (c .geometry .S) (fits c buffer st f h));
-  empty = at-once c buffer st f h;
-  in-order = data-and-holes (c .geometry) (pos c buffer st f h) st f _ (whole c buffer st f h);
-  laid = covers-laid (c .geometry) (pos c buffer st f h) st f _ 0 (whole c buffer st f h) ∙ ap (bytesFrom (c .geometry) st f 0) (sub-zero (sizeOf st f));
-}
+walks = walk-right

@@ -88,13 +88,14 @@ pub record DataAndHoles (g : Geometry) (st : Store) (f : ℕ) (ps : List Piece) 
   pub kinds : (p : Piece) → List·Memᴰ p ps → (i : ℕ) → p .start ≤ i → i < p .start + p .size → holeAt g st f i ≡ p .hole
   pub alternate : Alternate ps
 
-pub record WalkRight (g : Geometry) (st : Store) (f : ℕ) (answers : List (Bool × ℕ)) : Type 0 where
+-- the answers of a walk from place 0 on, a hole (or data) being asked for first
+pub record WalkRight (g : Geometry) (st : Store) (f : ℕ) (hole : Bool) (answers : List (Bool × ℕ)) : Type 0 where
   -- it reaches the size; in an empty file by its first SEEK
   pub ends : EndsAt (sizeOf st f) answers
   pub empty : sizeOf st f ≡ 0 → answers ≡ (true, 0) ∷ []
   -- its ranges; with zeros for the holes they are the file's bytes
-  pub in-order : DataAndHoles g st f (ranges false 0 answers)
-  pub laid : concatMap (laid g st f) (ranges false 0 answers) ≡ content g st f
+  pub in-order : DataAndHoles g st f (ranges hole 0 answers)
+  pub laid : concatMap (laid g st f) (ranges hole 0 answers) ≡ content g st f
 
 -- what a walk is given: a geometry, a verifier and a reply buffer that pass, a sound store and a file of it
 pub record WalkGiven (c : Config) (buffer : List ℕ) (st : Store) (f : ℕ) : Type 0 where
@@ -105,7 +106,7 @@ pub record WalkGiven (c : Config) (buffer : List ℕ) (st : Store) (f : ℕ) : T
   pub sound : sound (c .geometry) st ≡ true
   pub file : f < c .geometry .F
 
--- the first SEEK is for data, from place 0 on; one for each slot and one more are enough
+-- one SEEK for each slot and one more are enough
 abbrev pub WalkClaim : Type 0
-WalkClaim = (c : Config) (buffer : List ℕ) (st : Store) (f : ℕ) → WalkGiven c buffer st f
-    → WalkRight (c .geometry) st f (walk c buffer f (suc (c .geometry .S)) st false 0)
+WalkClaim = (c : Config) (buffer : List ℕ) (st : Store) (f : ℕ) → WalkGiven c buffer st f → (hole : Bool)
+    → WalkRight (c .geometry) st f hole (walk c buffer f (suc (c .geometry .S)) st hole 0)

@@ -14,18 +14,18 @@ use Rattle.rules.specs.Claim.{Follow, Alternate, Unlike, PiecesRight}
 use Rattle.rules.proofs.ReadLaws.{beq-true, beq-false, same-kind, slot-end, read-plus-laid}
 
 module _ (g : Geometry) (pos : 0 < g .B) (st : Store) (f end : ℕ) where
-  pub record PieceRight (p : Piece) : Type 0 where
-    pub some-byte : 1 ≤ p .size
-    pub inside : p .start + p .size ≤ end
-    pub kind : (i : ℕ) → p .start ≤ i → i < p .start + p .size → holeAt g st f i ≡ p .hole
+  record PieceRight (p : Piece) : Type 0 where
+    some-byte : 1 ≤ p .size
+    inside : p .start + p .size ≤ end
+    kind : (i : ℕ) → p .start ≤ i → i < p .start + p .size → holeAt g st f i ≡ p .hole
 
   -- pieces from place i on
-  pub record PiecesFrom (i : ℕ) (ps : List Piece) : Type 0 where
-    pub each : (p : Piece) → List·Memᴰ p ps → PieceRight p
-    pub starts : Follow i ps
-    pub alternate : Alternate ps
+  record PiecesFrom (i : ℕ) (ps : List Piece) : Type 0 where
+    each : (p : Piece) → List·Memᴰ p ps → PieceRight p
+    starts : Follow i ps
+    alternate : Alternate ps
 
-  pub each-cons : {p : Piece} {ps : List Piece} → PieceRight p → ((q : Piece) → List·Memᴰ q ps → PieceRight q) → (q : Piece) → List·Memᴰ q (p ∷ ps) → PieceRight q
+  each-cons : {p : Piece} {ps : List Piece} → PieceRight p → ((q : Piece) → List·Memᴰ q ps → PieceRight q) → (q : Piece) → List·Memᴰ q (p ∷ ps) → PieceRight q
   each-cons {p} {ps} h hs q m = go (List·Memᴰ·cases-cons m)
     where
       go : (q ≡ p) ⊎ List·Memᴰ q ps → PieceRight q

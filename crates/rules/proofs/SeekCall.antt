@@ -20,7 +20,7 @@ use Rattle.rules.specs.Read.{seekPlace}
 use Rattle.rules.specs.Operation.{Op, PUTFH, SEEK, opBytes, op, Header, headerLayout, requestBytes, seekResult, seekReply}
 use Rattle.rules.specs.Run.{State, zeroId, errors, Config, does, effect, body, Event, perform, reached}
 use Rattle.rules.specs.Calls.{fresh, compound, resultLayout, resultBytes, lastStatus, lastStore, replyHead, replyBytes, Call, refusal, answer}
-use Rattle.rules.specs.Seek.{seekCall, seekReplied, sought, WalkGiven}
+use Rattle.rules.specs.Seek.{seekCall, SeekReplied, seekReplied, sought, WalkGiven}
 use Rattle.rules.proofs.GeometryLaws.{Good, good, block-pos, file-small}
 use Rattle.rules.proofs.SoundStore.{Sound}
 use Rattle.rules.proofs.SoundLaws.{sound-facts}
@@ -33,7 +33,7 @@ use Rattle.rules.proofs.AnswerLaws.{Accepted, stands, store-is}
 
 -- ---- the reply that a client reads
 
-RepliedFits : (ℕ × (List ℕ × ℕ)) × ((ℕ × (ℕ × List ℕ)) × (ℕ × (ℕ × (Bool × ℕ)))) → Type 0
+RepliedFits : SeekReplied → Type 0
 RepliedFits a = HeadFits (a .0) × (ResultFits 0 (a .1 .0) × ((a .1 .1 .0 < 2 ^ 32) × ((a .1 .1 .1 .0 < 2 ^ 32) × (Unit {0} × (a .1 .1 .1 .1 .1 < 2 ^ 64)))))
 
 replied-back : ReadsBack seekReplied RepliedFits
@@ -140,7 +140,7 @@ module _ (c : Config) (buffer : List ℕ) (st : Store) (f : ℕ) (h : WalkGiven 
     abbrev eof : Bool
     eof = eqb place (sizeOf st f)
 
-    abbrev replied : (ℕ × (List ℕ × ℕ)) × ((ℕ × (ℕ × List ℕ)) × (ℕ × (ℕ × (Bool × ℕ))))
+    abbrev replied : SeekReplied
     replied = ((0, ([], 2)), ((22, (0, [])), (69, (0, (eof, place)))))
 
     kind-is : eqb what 1 ≡ hole

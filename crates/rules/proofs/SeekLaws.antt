@@ -1,7 +1,7 @@
 -- SEEK's answer: the place is the first from the offset on that is of the kind asked for, or the size; eof says which. At the size it is the size, and
 -- past it NXIO.
 use Prim.Native.Nat.{ℕ, suc, _*_, _≤_, _<_}
-use mathlib.Core.Path.{_≡_, refl, sym, ap, _∙_}
+use mathlib.Core.Path.{_≡_, refl, sym, ap, ap₂, _∙_}
 use mathlib.Core.Bool.{Bool, true}
 use mathlib.Core.Option.{some}
 use mathlib.Core.List.{List}
@@ -36,68 +36,69 @@ module _ (g : Geometry) (pos : 0 < g .B) (st : Store) (f : ℕ) (fits : sizeOf s
         at-end = (eqb-true p (sizeOf st f), eq-eqb p (sizeOf st f));
       }
 
--- ---- the errors
+-- ---- what it does
 
-module _ (g : Geometry) (x : State) (f : ℕ) (current : x .current ≡ some f) (id : List ℕ) (id-passes : readStateid id ≡ true) (off what : ℕ) where
-  pub seek-neither : 1 < what → first (errors g x (SEEK id off what)) ≡ UNION-NOTSUPP
+-- it changes nothing
+seek-effect : (g : Geometry) (x : State) (id : List ℕ) (off what : ℕ) → effect g x (SEEK id off what) ≡ x
+unfolding effect does
+seek-effect g x id off what = refl
+
+-- with file f current, and a stateid that passes
+module _ (g : Geometry) (x : State) (f : ℕ) (current : x .current ≡ some f) (id : List ℕ) (passes : readStateid id ≡ true) (off what : ℕ) where
+  seek-neither : 1 < what → first (errors g x (SEEK id off what)) ≡ UNION-NOTSUPP
   unfolding errors
-  seek-neither h = rw (current, id-passes, lt-ltb 1 what h)
+  seek-neither h = rw (current, passes, lt-ltb 1 what h)
 
   pub seek-passes : what ≤ 1 → off ≤ sizeOf (x .store) f → first (errors g x (SEEK id off what)) ≡ 0
   unfolding errors
-  seek-passes h l = rw (current, id-passes, le-ltb 1 what h, le-ltb (sizeOf (x .store) f) off l)
+  seek-passes h l = rw (current, passes, le-ltb 1 what h, le-ltb (sizeOf (x .store) f) off l)
 
-  pub seek-past : what ≤ 1 → sizeOf (x .store) f < off → first (errors g x (SEEK id off what)) ≡ NXIO
+  seek-past : what ≤ 1 → sizeOf (x .store) f < off → first (errors g x (SEEK id off what)) ≡ NXIO
   unfolding errors
-  seek-past h l = rw (current, id-passes, le-ltb 1 what h, lt-ltb (sizeOf (x .store) f) off l)
-
-  -- it changes nothing
-  pub seek-effect : effect g x (SEEK id off what) ≡ x
-  unfolding effect does
-  seek-effect = refl
+  seek-past h l = rw (current, passes, le-ltb 1 what h, lt-ltb (sizeOf (x .store) f) off l)
 
   pub seek-body : (v : List ℕ) → body g v x (SEEK id off what) ≡ seekReply g (x .store) f off what
   unfolding body does
   seek-body v = ap (λ u. seekReply g (x .store) (fileOf u) off what) current
 
-  -- a file of a sound store, and the body as eof and a place
-  module _ (bd : Good g) (r : Ready g x) (v : List ℕ) (l : off ≤ sizeOf (x .store) f) where
+  -- ---- in a sound store
+
+  module _ (bd : Good g) (r : Ready g x) where
     place : ℕ
     place = seekPlace g (x .store) f (eqb what 1) off
 
-    finds : Finds g (x .store) f off (eqb what 1) (eqb place (sizeOf (x .store) f)) place
+    finds : off ≤ sizeOf (x .store) f → Finds g (x .store) f off (eqb what 1) (eqb place (sizeOf (x .store) f)) place
     unfolding place
-    finds = seek-finds g (block-pos bd) (x .store) f (any-file g (x .store) (r .sound) f) (eqb what 1) off l
+    finds l = seek-finds g (block-pos bd) (x .store) f (any-file g (x .store) (r .sound) f) (eqb what 1) off l
 
-    shown : body g v x (SEEK id off what) ≡ seekResult .write (eqb place (sizeOf (x .store) f), place)
+    shown : (v : List ℕ) → body g v x (SEEK id off what) ≡ seekResult .write (eqb place (sizeOf (x .store) f), place)
     unfolding place seekReply
-    shown = seek-body v
+    shown v = seek-body v
 
-    shown-end : off ≡ sizeOf (x .store) f → body g v x (SEEK id off what) ≡ seekResult .write (true, off)
-    shown-end e =
-        let same : place ≡ off = omega (arith, finds .from, finds .to) in
-        shown ∙ ap (λ b. seekResult .write (b, place)) (eq-eqb place (sizeOf (x .store) f) (same ∙ e)) ∙ ap (λ p. seekResult .write (true, p)) same
+    shown-end : (v : List ℕ) → off ≡ sizeOf (x .store) f → body g v x (SEEK id off what) ≡ seekResult .write (true, off)
+    shown-end v e =
+        let w = finds (omega (arith, e)) in
+        let same : place ≡ off = omega (arith, e, w .from, w .to) in
+        shown v ∙ ap₂ (λ b p. seekResult .write (b, p)) (w .at-end .1 (same ∙ e)) same
+
+    performed-seek : {v : List ℕ} {next : ℕ} {z : Event} → Performed (config g v) x (SEEK id off what) next z → SeekRight g f off what z
+    performed-seek (refused e h) = record {
+      neither = λ w. sym h ∙ seek-neither w;
+      past = λ w l. sym h ∙ seek-past w l;
+      finds = λ w l. absurd (omega (arith, h, seek-passes w l));
+      at-size = λ w l. absurd (omega (arith, h, seek-passes w (omega (arith, l))));
+      keeps = refl;
+    }
+    performed-seek (nospc h l) = absurd (omega (arith, l, r .sound .room, ap (λ y. need (y .store .words)) (seek-effect g x id off what)))
+    performed-seek {v} (done h l) = record {
+      neither = λ w. absurd (omega (arith, h, seek-neither w));
+      past = λ w l. absurd (omega (arith, h, seek-past w l));
+      finds = λ w l. (refl, _, _, shown v, finds l);
+      at-size = λ w e. (refl, shown-end v e);
+      keeps = seek-effect g x id off what;
+    }
 
 -- ---- a SEEK reached
 
-module _ (g : Geometry) (bd : Good g) (id : List ℕ) (id-passes : readStateid id ≡ true) (off what f : ℕ) where
-  performed-seek : {v : List ℕ} {x : State} {next : ℕ} {z : Event} → Performed (config g v) x (SEEK id off what) next z → Ready g x → x .current ≡ some f → SeekRight g f off what z
-  performed-seek {x = x} (refused e h) r c = record {
-    neither = λ w. sym h ∙ seek-neither g x f c id id-passes off what w;
-    past = λ w l. sym h ∙ seek-past g x f c id id-passes off what w l;
-    finds = λ w l. absurd (omega (arith, h, seek-passes g x f c id id-passes off what w l));
-    at-size = λ w l. absurd (omega (arith, h, seek-passes g x f c id id-passes off what w (omega (arith, l))));
-    keeps = refl;
-  }
-  performed-seek {x = x} (nospc h l) r c =
-      absurd (omega (arith, l, r .sound .room, ap (λ y. need (y .store .words)) (seek-effect g x f c id id-passes off what)))
-  performed-seek {v} {x} (done h l) r c = record {
-    neither = λ w. absurd (omega (arith, h, seek-neither g x f c id id-passes off what w));
-    past = λ w l. absurd (omega (arith, h, seek-past g x f c id id-passes off what w l));
-    finds = λ w l. (refl, _, _, shown g x f c id id-passes off what bd r v l, finds g x f c id id-passes off what bd r v l);
-    at-size = λ w e. (refl, shown-end g x f c id id-passes off what bd r v (omega (arith, e)) e);
-    keeps = seek-effect g x f c id id-passes off what;
-  }
-
-  pub step-seek : {z : Event} → Step g z → Is z (SEEK id off what) f → SeekRight g f off what z
-  step-seek s w = let a = as-op g bd s (w .0 .1) in performed-seek (a .how) (a .ready) (w .1)
+pub step-seek : (g : Geometry) → Good g → (id : List ℕ) → readStateid id ≡ true → (off what f : ℕ) → {z : Event} → Step g z → Is z (SEEK id off what) f → SeekRight g f off what z
+step-seek g bd id passes off what f {z} s w = let a = as-op g bd s (w .0 .1) in performed-seek g (z .before) f (w .1) id passes off what bd (a .ready) (a .how)

@@ -5,7 +5,7 @@ use mathlib.Core.Bool.{Bool, true, false, cond, not}
 use mathlib.Core.Option.{Option, none, some}
 use mathlib.Core.List.{List, [], _∷_, List·Memᴰ}
 use mathlib.Core.Logic.{_↔_, _⊎_}
-use lib.ListN.{length}
+use lib.ListN.{length, drop}
 use lib.Dec.{eqb}
 use Rattle.xdr.specs.Encode.{u32, concatMap}
 use Rattle.xdr.specs.Decode.{got, fault}
@@ -15,7 +15,7 @@ use Rattle.rules.specs.Read.{holeAt, Piece}
 use Rattle.rules.specs.Operation.{NXIO, UNION-NOTSUPP, PUTFH, SEEK, requestBytes, seekResult}
 use Rattle.rules.specs.Run.{zeroId, readStateid, Config, Event}
 use Rattle.rules.specs.Calls.{resultLayout, replyHead, Call, Outcome, answer}
-use Rattle.rules.specs.Claim.{Entry, Each, history, OK, Is, laid, Follow, Alternate}
+use Rattle.rules.specs.Claim.{Entry, Each, history, OK, Is, laid, Unlike}
 
 -- ---- the answer
 
@@ -48,13 +48,20 @@ SeekClaim E = (g : Geometry) (t : E .Tables) → goodGeometry g ≡ true → E .
 abbrev pub seekCall : Config → List ℕ → ℕ → Bool → ℕ → Call
 seekCall c buffer f hole off = record { config = c; request = requestBytes [] (PUTFH (u32 f) ∷ SEEK zeroId off (cond hole 1 0) ∷ []); buffer = buffer }
 
--- the reply to it: status, tag and number of results; PUTFH's result; SEEK's number, status, eof and place
-abbrev pub seekReplied : Layout ((ℕ × (List ℕ × ℕ)) × ((ℕ × (ℕ × List ℕ)) × (ℕ × (ℕ × (Bool × ℕ)))))
+-- what the reply to it says: status, tag and number of results; PUTFH's result; SEEK's number, status, eof and place
+abbrev pub SeekReplied : Type 0
+SeekReplied = (ℕ × (List ℕ × ℕ)) × ((ℕ × (ℕ × List ℕ)) × (ℕ × (ℕ × (Bool × ℕ))))
+
+abbrev pub seekReplied : Layout SeekReplied
 seekReplied = replyHead then resultLayout 0 then uint then uint then seekResult
 
--- eof and the place, as the client reads them where the status is OK
+-- eof and the place, where the reply's status is OK
+abbrev pub okAnswer : SeekReplied → Option (Bool × ℕ)
+okAnswer ((status, (tag, results)), (put, (number, (seekStatus, a)))) = cond (eqb status 0) (some a) none
+
+-- as the client reads them in the reply
 abbrev pub sought : List ℕ → Option (Bool × ℕ)
-sought reply = elim (seekReplied .read reply 0) [ got r next ↦ cond (eqb (r .0 .0) 0) (some (r .1 .1 .1 .1)) none | fault p ↦ none ]
+sought reply = elim (seekReplied .read reply 0) [ got r next ↦ okAnswer r | fault p ↦ none ]
 
 -- The walk: SEEK for data and for a hole by turns, each from the place that the one before answered, up to the first TRUE. Its answers; k bounds
 -- their number.
@@ -75,27 +82,24 @@ abbrev pub EndsAt : ℕ → List (Bool × ℕ) → Type 0
 EndsAt n [] = ⊥
 EndsAt n (a ∷ rest) = ((a ≡ (true, n)) × (rest ≡ [])) ⊎ ((a .0 ≡ false) × EndsAt n rest)
 
--- where pieces from place i on end
-abbrev pub endOf : ℕ → List Piece → ℕ
-endOf i [] = i
-endOf i (p ∷ ps) = endOf (p .start + p .size) ps
+-- a piece of file f: at least one byte, all of its kind
+pub record PieceOf (g : Geometry) (st : Store) (f : ℕ) (p : Piece) : Type 0 where
+  pub some-byte : 1 ≤ p .size
+  pub kind : (i : ℕ) → p .start ≤ i → i < p .start + p .size → holeAt g st f i ≡ p .hole
 
--- ps are file f's data and holes in order
-pub record DataAndHoles (g : Geometry) (st : Store) (f : ℕ) (ps : List Piece) : Type 0 where
-  pub starts : Follow 0 ps
-  pub ends : endOf 0 ps ≡ sizeOf st f
-  pub none-empty : (p : Piece) → List·Memᴰ p ps → 1 ≤ p .size
-  pub kinds : (p : Piece) → List·Memᴰ p ps → (i : ℕ) → p .start ≤ i → i < p .start + p .size → holeAt g st f i ≡ p .hole
-  pub alternate : Alternate ps
+-- file f's data and holes in order, from place i up to the size: each piece starts where the one before ends, and neighbours differ in kind
+abbrev pub DataAndHoles : Geometry → Store → ℕ → ℕ → List Piece → Type 0
+DataAndHoles g st f i [] = i ≡ sizeOf st f
+DataAndHoles g st f i (p ∷ ps) = (p .start ≡ i) × (PieceOf g st f p × (Unlike (p .hole) ps × DataAndHoles g st f (p .start + p .size) ps))
 
--- the answers of a walk from place 0 on, a hole (or data) being asked for first
-pub record WalkRight (g : Geometry) (st : Store) (f : ℕ) (hole : Bool) (answers : List (Bool × ℕ)) : Type 0 where
-  -- it reaches the size; in an empty file by its first SEEK
+-- the answers of a walk over file f from place `off` on, a hole (or data) being asked for first
+pub record WalkRight (g : Geometry) (st : Store) (f : ℕ) (hole : Bool) (off : ℕ) (answers : List (Bool × ℕ)) : Type 0 where
+  -- it reaches the size; from there, and so in an empty file, by one SEEK
   pub ends : EndsAt (sizeOf st f) answers
-  pub empty : sizeOf st f ≡ 0 → answers ≡ (true, 0) ∷ []
+  pub at-size : off ≡ sizeOf st f → answers ≡ (true, off) ∷ []
   -- its ranges; with zeros for the holes they are the file's bytes
-  pub in-order : DataAndHoles g st f (ranges hole 0 answers)
-  pub laid : concatMap (laid g st f) (ranges hole 0 answers) ≡ content g st f
+  pub in-order : DataAndHoles g st f off (ranges hole off answers)
+  pub laid : concatMap (laid g st f) (ranges hole off answers) ≡ drop off (content g st f)
 
 -- what a walk is given: a geometry, a verifier and a reply buffer that pass, a sound store and a file of it
 pub record WalkGiven (c : Config) (buffer : List ℕ) (st : Store) (f : ℕ) : Type 0 where
@@ -106,7 +110,7 @@ pub record WalkGiven (c : Config) (buffer : List ℕ) (st : Store) (f : ℕ) : T
   pub sound : sound (c .geometry) st ≡ true
   pub file : f < c .geometry .F
 
--- one SEEK for each slot and one more are enough
+-- from any place up to the size, 0 above all; one SEEK for each slot and one more are enough
 abbrev pub WalkClaim : Type 0
-WalkClaim = (c : Config) (buffer : List ℕ) (st : Store) (f : ℕ) → WalkGiven c buffer st f → (hole : Bool)
-    → WalkRight (c .geometry) st f hole (walk c buffer f (suc (c .geometry .S)) st hole 0)
+WalkClaim = (c : Config) (buffer : List ℕ) (st : Store) (f : ℕ) → WalkGiven c buffer st f → (hole : Bool) (off : ℕ) → off ≤ sizeOf st f
+    → WalkRight (c .geometry) st f hole off (walk c buffer f (suc (c .geometry .S)) st hole off)

@@ -7,7 +7,7 @@ use native.Mathlib.Omega.{arith}
 use borrow.Author.Tests.{not-false}
 use lib.ListN.{length, set, take, drop, length-append}
 use lib.Seq.{length-take-le, take-at}
-use Rattle.rules.specs.Store.{Geometry, goodGeometry, Store, sizeOf}
+use Rattle.rules.specs.Store.{Geometry, goodGeometry, Store, sizeOf, fitsPool}
 use Rattle.rules.specs.Edit.{slotCount, plan, edited, editBytes}
 use Rattle.rules.proofs.EditForms.{edited-none, edited-some}
 use Rattle.rules.proofs.GeometryLaws.{good, block-pos}
@@ -17,7 +17,7 @@ use Rattle.store.specs.EditPromises.{EditPromise}
 use Rattle.store.specs.Edits.{Applies, editFrom}
 use Rattle.store.specs.Fill.{Fills}
 use Rattle.store.specs.Planner.{Plannable, EditPlanned}
-use Rattle.store.proofs.EditEnds.{edit-none, sound-store, plan-refused, plan-done}
+use Rattle.store.proofs.EditEnds.{edit-none, words-fit, sound-store, plan-refused, plan-done}
 use Rattle.store.proofs.KindLaws.{applies-plannable}
 use Rattle.store.proofs.FillLaws.{fills-known}
 
@@ -44,8 +44,9 @@ module _ {g : Geometry} {st : Store} {cs : List ℕ} {e : CodeEdit.Edit} {d : Li
         pub saved-long : length (take n saved) ≡ n
         saved-long = length-take-le n saved (rw h saved-room)
 
-        pub saved-plannable : Plannable g e (st .words) cs (take n saved)
-        saved-plannable = applies-plannable a some (saved-long ∙ is)
+        -- what `plan` asks
+        pub saved-plannable : Plannable g e (st .words) cs (take n saved) × (fitsPool (length cs) (st .words) ≡ true)
+        saved-plannable = (applies-plannable a some (saved-long ∙ is), words-fit (a .known))
 
         -- they come back as `old`
         module _ (old : List ℕ) (kept : length old ≡ length (take n saved)) where

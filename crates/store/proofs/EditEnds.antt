@@ -49,9 +49,12 @@ module _ {g : Geometry} {st : Store} {cs : List ℕ} {f : ℕ} (k : EditKnown g 
   pub sound-store : Sound g st
   sound-store = sound-facts g (block-pos good-geometry) st (k .shaped .lengths) (k .sound)
 
+  pub words-fit : fitsPool (length cs) (st .words) ≡ true
+  words-fit = le-leb (need (st .words)) (length cs) (rw (k .blocks) (sound-store .room))
+
   -- an edit that plans no change
   pub edit-none : (planned : Store) → planned ≡ st → EditPromise g st planned true st cs
-  edit-none planned e = rw e (edit-done g st st st cs (le-leb (need (st .words)) (g .N) (sound-store .room)) refl refl refl (k .counted))
+  edit-none planned e = rw e (edit-done g st st st cs (rw (k .blocks) at words-fit) refl refl refl (k .counted))
 
   -- after the plan of an edit that would leave `sizes`, `planned` and `mem`
   module _ {edit : Store} {sizes planned mem : List ℕ} (is : edit ≡ record { sizes = sizes; words = planned; mem = mem })

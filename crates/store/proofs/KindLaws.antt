@@ -17,11 +17,13 @@ use Rattle.rules.proofs.SoundStore.{slots-fit, ceil-behind, Sound}
 use Rattle.rules.proofs.SoundLaws.{sound-facts}
 use Rattle.rules.proofs.PlanLaws.{own-slot, InPool}
 use Rattle.tables.specs.Tables.{TableTrue, Stored}
+use Rattle.tables.specs.Tally.{firstZero}
 use Rattle.store.specs.declared.edit.Source.{Source}
 use Rattle.store.specs.declared.edit.Act as Code
 use Rattle.store.specs.declared.edit.Edit as CodeEdit
+use Rattle.store.specs.declared.edit.Search as Search
 use Rattle.store.specs.Edits.{editFrom, ActKnown, Applies}
-use Rattle.store.specs.Planner.{SourceSlots, EditSlots, Plannable, SlotOf, SharesIn, KindIs, indexOf, NoBlock, SlotChanged, inPass, SlotPassed}
+use Rattle.store.specs.Planner.{SourceSlots, EditSlots, Plannable, SlotOf, SharesIn, KindIs, indexOf, NoBlock, SlotChanged, inPass}
 
 -- ---- where the slots lie
 
@@ -125,25 +127,27 @@ module _ {g : Geometry} {e : CodeEdit.Edit} {size k w : ℕ} where
 -- ---- a slot changed
 
 module _ {ws cs : List ℕ} {i : ℕ} where
-  changed-done : {c : Kind} {after cs′ : List ℕ} → after ≡ become c ws i → TableTrue after cs′ → SlotChanged c ws cs i true after cs′
-  changed-done e k = record { words-are = e; counted = k; stopped = λ d. absurd (true≢false d) }
+  changed-done : {c : Kind} {b : ℕ} {after cs′ : List ℕ} → after ≡ become c ws i → TableTrue after cs′ → b ≤ firstZero cs′
+      → SlotChanged c ws cs i (Search.Search.From b) after cs′
+  changed-done e k l = record { words-are = e; counted = k; searched = l; stopped = λ d. absurd (true≢false d) }
 
-  pub changed-stays : TableTrue ws cs → SlotChanged stays ws cs i true ws cs
+  pub changed-stays : {from : ℕ} → TableTrue ws cs → from ≤ firstZero cs → SlotChanged stays ws cs i (Search.Search.From from) ws cs
   unfolding become
-  changed-stays k = changed-done refl k
+  changed-stays k low = changed-done refl k low
 
+  -- a stored word may free a block, and the search begins at 0
   module _ {after cs′ : List ℕ} where
-    pub changed-given : Stored ws i 0 after cs′ → SlotChanged given ws cs i true after cs′
+    pub changed-given : Stored ws i 0 after cs′ → SlotChanged given ws cs i (Search.Search.From 0) after cs′
     unfolding become
-    changed-given s = changed-done (s .words-are) (s .counted)
+    changed-given s = changed-done (s .words-are) (s .counted) (omega arith)
 
-    pub changed-shares : {p : ℕ} → Stored ws i (word (getD ws p 0 / 2) (getD ws i 0 % 2)) after cs′ → SlotChanged (shares p) ws cs i true after cs′
+    pub changed-shares : {p : ℕ} → Stored ws i (word (getD ws p 0 / 2) (getD ws i 0 % 2)) after cs′ → SlotChanged (shares p) ws cs i (Search.Search.From 0) after cs′
     unfolding become
-    changed-shares s = changed-done (s .words-are) (s .counted)
+    changed-shares s = changed-done (s .words-are) (s .counted) (omega arith)
 
-    pub changed-reserved : Stored ws i (word (getD ws i 0 / 2) 1) after cs′ → SlotChanged reserved ws cs i true after cs′
+    pub changed-reserved : Stored ws i (word (getD ws i 0 / 2) 1) after cs′ → SlotChanged reserved ws cs i (Search.Search.From 0) after cs′
     unfolding become
-    changed-reserved s = changed-done (s .words-are) (s .counted)
+    changed-reserved s = changed-done (s .words-are) (s .counted) (omega arith)
 
 -- ---- what a kind does to the words
 
@@ -196,12 +200,3 @@ pass-given false = refl
 pub pass-other : (first : Bool) (c : Kind) → isGiven c ≡ false → not first ≡ inPass first c
 pass-other true c e = sym e
 pass-other false c e = rw e
-
--- one slot of a pass: one of another pass, and one of its own
-module _ {g : Geometry} {e : CodeEdit.Edit} {size k w : ℕ} {first : Bool} {c : Kind} (is : KindIs g e size k w c) {ws cs : List ℕ} where
-  pub slot-left : inPass first c ≡ false → TableTrue ws cs → SlotPassed g e size first k w ws cs true ws cs
-  slot-left q h = record { kind = c; kind-is = is; changed = rw q (changed-stays h) }
-
-  pub slot-passed : inPass first c ≡ true → {d : Bool} {after cs′ : List ℕ} → SlotChanged c ws cs (e .file * g .S + k) d after cs′
-      → SlotPassed g e size first k w ws cs d after cs′
-  slot-passed q h = record { kind = c; kind-is = is; changed = rw q h }

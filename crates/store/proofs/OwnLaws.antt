@@ -1,24 +1,28 @@
 -- Laws on unshared blocks in place: one slot, and old words stored again.
 use Prim.Native.Nat.{ℕ, zero, suc, _+_, _/_, _%_, _≤_, _<_, max}
 use mathlib.Core.Path.{_≡_, refl, sym, ap, _∙_}
-use mathlib.Core.Bool.{true, false, true≢false}
+use mathlib.Core.Bool.{Bool, true, false, true≢false}
 use mathlib.Core.List.{List, _∷_, append-assoc, []}
 use native.Mathlib.Nat.{add-suc}
 use native.Mathlib.Numerals.{add-one}
 use native.Mathlib.Omega.{arith}
-use borrow.Author.Tests.{eq-eqb, ne-eqb}
-use lib.ListN.{length, getD, set, take, drop, drop-of-length-le}
-use lib.Seq.{set-getD, drop-cons, sets, sets-eq}
+use native.Mathlib.Decide.{decLt}
+use borrow.Author.Tests.{eq-eqb, ne-eqb, eqb-true, ltb-true}
+use lib.ListN.{length, getD, set, take, drop, drop-of-length-le, length-set}
+use lib.Dec.{eqb}
+use lib.Seq.{set-getD, getD-set-same, drop-cons, sets, sets-eq}
 use Rattle.xdr.specs.Bytes.{splice}
 use Rattle.rules.specs.Lists.{bit, sumTo}
 use Rattle.rules.specs.Store.{word, holds, holders, blockBound, lowestFree, holeOrShared}
 use Rattle.rules.specs.Edit.{owns, owned, become}
-use Rattle.rules.proofs.CountLaws.{sumTo-add, sumTo-point, sumTo-cut, sumTo-ge}
+use Rattle.rules.proofs.CountLaws.{count-set, sumTo-add, sumTo-point, sumTo-cut, sumTo-ge}
 use Rattle.rules.proofs.NeedLaws.{lowestFree-least}
+use Rattle.rules.proofs.PlanLaws.{one-holder}
 use Rattle.tables.specs.Tally.{takesBy, firstZero}
 use Rattle.tables.specs.Tables.{TableTrue, Stored}
+use Rattle.store.specs.declared.edit.Search as Search
 use Rattle.store.specs.Planner.{SlotChanged}
-use Rattle.tables.proofs.TallyLaws.{takes-same, tallied-free, tallied-full}
+use Rattle.tables.proofs.TallyLaws.{first-below, first-from, takes-same, tallied-free, tallied-full}
 
 -- ---- the lowest free block's number is at most the number of slots
 
@@ -51,9 +55,18 @@ lowestFree≤slots ws =
 
 -- ---- one slot
 
-slot-done : {ws cs after cs′ : List ℕ} {i : ℕ} → after ≡ set ws i (owned ws (getD ws i 0)) → TableTrue after cs′ → SlotChanged owns ws cs i true after cs′
+-- a block stays held when another slot than its only one gets a word
+still-held : (ws : List ℕ) (i x c : ℕ) → i < length ws → 1 ≤ holders c ws → (getD ws i 0 / 2 ≡ suc c → 2 ≤ holders c ws) → 1 ≤ holders c (set ws i x)
+still-held ws i x c inside h two = go (eqb (getD ws i 0 / 2) (suc c)) refl
+  where
+    go : (t : Bool) → eqb (getD ws i 0 / 2) (suc c) ≡ t → 1 ≤ holders c (set ws i x)
+    go true e = omega (arith, count-set (holds c) ws i x inside, ap bit e, two (eqb-true (getD ws i 0 / 2) (suc c) e))
+    go false e = omega (arith, count-set (holds c) ws i x inside, ap bit e)
+
+slot-done : {ws cs after cs′ : List ℕ} {i b : ℕ} → after ≡ set ws i (owned ws (getD ws i 0)) → TableTrue after cs′ → b ≤ firstZero cs′
+    → SlotChanged owns ws cs i (Search.Search.From b) after cs′
 unfolding become
-slot-done e k = record { words-are = e; counted = k; stopped = λ d. absurd (true≢false d) }
+slot-done e k l = record { words-are = e; counted = k; searched = l; stopped = λ d. absurd (true≢false d) }
 
 module _ (ws cs : List ℕ) (known : TableTrue ws cs) where
   -- a free block of the table is low enough for a word
@@ -64,22 +77,49 @@ module _ (ws cs : List ℕ) (known : TableTrue ws cs) where
     takes-is : takesBy cs (getD ws i 0) ≡ holeOrShared ws (getD ws i 0)
     takes-is = takes-same ws cs (known .table) (known .pool) (getD ws i 0) (known .pool i)
 
-    pub slot-kept : takesBy cs (getD ws i 0) ≡ false → SlotChanged owns ws cs i true ws cs
+    pub slot-kept : takesBy cs (getD ws i 0) ≡ false → {from : ℕ} → from ≤ firstZero cs → SlotChanged owns ws cs i (Search.Search.From from) ws cs
     unfolding owned
-    slot-kept e = slot-done (rw (sym takes-is ∙ e) (sym (set-getD ws i 0))) known
+    slot-kept e low = slot-done (rw (sym takes-is ∙ e) (sym (set-getD ws i 0))) known low
 
     module _ (e : takesBy cs (getD ws i 0) ≡ true) where
-      pub slot-stopped : length cs ≤ firstZero cs → SlotChanged owns ws cs i false ws cs
+      pub slot-stopped : length cs ≤ firstZero cs → SlotChanged owns ws cs i Search.Search.Full ws cs
       slot-stopped h = record {
         words-are = refl;
         counted = known;
+        searched = tt;
         stopped = λ d. record { asked = refl; wants = sym takes-is ∙ e; full = tallied-full ws cs (known .table) (known .pool) h };
       }
 
-      pub slot-taken : firstZero cs < length cs → (after cs′ : List ℕ) → Stored ws i (word (suc (firstZero cs)) (getD ws i 0 % 2)) after cs′ → SlotChanged owns ws cs i true after cs′
-      unfolding owned
-      slot-taken h after cs′ s =
-          slot-done (s .words-are ∙ rw (sym takes-is ∙ e, tallied-free ws cs (known .table) (known .pool) h)) (s .counted)
+      module _ (h : firstZero cs < length cs) (inside : i < length ws) {after cs′ : List ℕ} (same : length cs′ ≡ length cs)
+          (s : Stored ws i (word (suc (firstZero cs)) (getD ws i 0 % 2)) after cs′) where
+        x : ℕ
+        x = word (suc (firstZero cs)) (getD ws i 0 % 2)
+
+        -- the blocks below the taken one were held, and a block that loses a holder has another
+        held-below : (c : ℕ) → c < firstZero cs → 1 ≤ holders c (set ws i x)
+        held-below c l =
+            let r = first-below cs c l in
+            let is : getD cs c 0 ≡ holders c ws = known .table .each c (r .0) in
+            still-held ws i x c inside (omega arith) (λ q. omega (arith, is, ltb-true 1 (getD cs c 0) (rw (q, ne-eqb (suc c) 0 (λ (z : suc c ≡ 0). omega arith)) at e)))
+
+        taken-held : 1 ≤ holders (firstZero cs) (set ws i x)
+        unfolding x
+        taken-held = one-holder (set ws i x) i (firstZero cs) (rw (length-set ws i x) inside) (rw (getD-set-same ws i x 0 inside) (omega arith))
+
+        low-behind : firstZero cs + 1 ≤ firstZero cs′
+        unfolding x
+        low-behind = first-from cs′ (firstZero cs + 1) (omega arith) (λ c l. rw (s .counted .table .each c (omega arith), s .words-are) (go c (decLt c (firstZero cs)) l))
+          where
+            go : (c : ℕ) → Dec (c < firstZero cs) → c < firstZero cs + 1 → 0 < holders c (set ws i x)
+            go c (yes l) u = held-below c l
+            go c (no d) u =
+                let q : c ≡ firstZero cs = omega (arith, d) in
+                rw q taken-held
+
+        pub slot-taken : SlotChanged owns ws cs i (Search.Search.From (firstZero cs + 1)) after cs′
+        unfolding owned
+        slot-taken =
+            slot-done (s .words-are ∙ rw (sym takes-is ∙ e, tallied-free ws cs (known .table) (known .pool) h)) (s .counted) low-behind
 
 -- ---- old words stored again
 

@@ -15,12 +15,14 @@ use Rattle.rules.specs.Store.{Geometry, Store, sizeOf, wordOf, isHole, used, ow
 use Rattle.rules.specs.Edit.{Act, write, copy, clone, allocate, deallocate, Edit, firstSlot, slotCount, Kind, owns, given, stays, kindOf, become, givesBack, pass, plan}
 use Rattle.rules.proofs.PlanLaws.{each-ext, InPool}
 use Rattle.tables.specs.Tables.{TableTrue}
+use Rattle.tables.specs.Tally.{firstZero}
 use Rattle.store.specs.declared.edit.Edit as CodeEdit
+use Rattle.store.specs.declared.edit.Search as Search
 use Rattle.store.specs.Edits.{editFrom}
-use Rattle.store.specs.Plan.{Planned, Outside, Undone}
-use Rattle.store.specs.Planner.{NoBlock, inPass, only, SlotPassed, Plannable, indexOf, wordsOf, Seen, Passed, EditPlanned}
+use Rattle.store.specs.Plan.{Planned, Outside, Undoable, Undone, Settleable}
+use Rattle.store.specs.Planner.{NoBlock, KindIs, goesOn, SlotChanged, inPass, only, Plannable, indexOf, wordsOf, Seen, Passed, EditPlanned}
 use Rattle.store.proofs.KindLaws.{edit-inside, become-local, become-length, keeps, keeps-used, stop-used}
-use Rattle.store.proofs.SettleLaws.{outside-refl, outside-trans, saved-is, saved-pool, planned-undone, planned-settled}
+use Rattle.store.proofs.SettleLaws.{outside-refl, outside-trans, saved-is, saved-pool, saved-back, planned-undone, planned-settled}
 
 -- ---- slots one after the other
 
@@ -104,27 +106,29 @@ module _ {g : Geometry} {e : CodeEdit.Edit} {size : ℕ} {old : List ℕ} {st : 
       let same : i + j ≡ e .file * g .S + (firstSlot g (e .off) + j) = omega arith in
       sym (rw (s .words-are, getD-take n (drop i (st .words)) j 0 h, getD-drop i (st .words) j 0, same))
 
-pub record Passing (g : Geometry) (e : CodeEdit.Edit) (size : ℕ) (first : Bool) (old ws₀ cs₀ ws cs : List ℕ) (j : ℕ) : Type 0 where
+pub record Passing (g : Geometry) (e : CodeEdit.Edit) (size : ℕ) (first : Bool) (old ws₀ cs₀ ws cs : List ℕ) (j from : ℕ) : Type 0 where
   pub within : j ≤ slotCount g (e .off) (e .end)
   pub blocks : length cs ≡ length cs₀
   pub counted : TableTrue ws cs
+  pub low : from ≤ firstZero cs
   pub outside : Outside ws₀ (indexOf g e) (slotCount g (e .off) (e .end)) ws
   pub left : (st : Store) (d : List ℕ) → Seen g e size old st
       → each (run (e .file * g .S) (kindsIn (inPass first) g st (editFrom e d))) ws (firstSlot g (e .off) + j) (slotCount g (e .off) (e .end) - j)
       ≡ pass g st (editFrom e d) (inPass first) ws₀
 
-pub pass-start : {g : Geometry} {e : CodeEdit.Edit} {size : ℕ} {ws cs old : List ℕ} {first : Bool} → Plannable g e ws cs old → Passing g e size first old ws cs ws cs 0
+pub pass-start : {g : Geometry} {e : CodeEdit.Edit} {size : ℕ} {ws cs old : List ℕ} {first : Bool} → Plannable g e ws cs old → Passing g e size first old ws cs ws cs 0 0
 pass-start {g} {e} {ws = ws} {first = first} k =
     let none : slotCount g (e .off) (e .end) - 0 ≡ slotCount g (e .off) (e .end) = omega arith in
     record {
       within = omega arith;
       blocks = refl;
       counted = k .counted;
+      low = omega arith;
       outside = outside-refl ws _ _;
       left = λ st d s. rw (add-zero (firstSlot g (e .off)), none) (sym (pass-is (inPass first) g st (editFrom e d) ws));
     }
 
-module _ {g : Geometry} {e : CodeEdit.Edit} {size : ℕ} {first : Bool} {old ws₀ cs₀ ws cs : List ℕ} {j : ℕ} (l : Passing g e size first old ws₀ cs₀ ws cs j) where
+module _ {g : Geometry} {e : CodeEdit.Edit} {size : ℕ} {first : Bool} {old ws₀ cs₀ ws cs : List ℕ} {j from : ℕ} (l : Passing g e size first old ws₀ cs₀ ws cs j from) where
   pub pass-end : slotCount g (e .off) (e .end) ≤ j → Passed g e size first old ws₀ true ws cs
   pass-end h =
       let none : slotCount g (e .off) (e .end) - j ≡ 0 = omega arith in
@@ -136,35 +140,42 @@ module _ {g : Geometry} {e : CodeEdit.Edit} {size : ℕ} {first : Bool} {old ws�
         unfit = λ t st d s. absurd (true≢false t);
       }
 
-  module _ (h : j < slotCount g (e .off) (e .end)) {done : Bool} {after cs′ : List ℕ} (same : length cs′ ≡ length cs)
-      (t : SlotPassed g e size first (firstSlot g (e .off) + j) (getD old j 0) ws cs done after cs′) where
+  module _ (h : j < slotCount g (e .off) (e .end)) {kind : Kind} (is : KindIs g e size (firstSlot g (e .off) + j) (getD old j 0) kind)
+      {next : Search.Search} {after cs′ : List ℕ} (same : length cs′ ≡ length cs)
+      (t : SlotChanged (only (inPass first) kind) ws cs (indexOf g e + j) next after cs′) where
+    changed-at : SlotChanged (only (inPass first) kind) ws cs (e .file * g .S + (firstSlot g (e .off) + j)) next after cs′
+    changed-at =
+        let q : indexOf g e + j ≡ e .file * g .S + (firstSlot g (e .off) + j) = omega arith in
+        rw q at t
+
     kinds-are : (st : Store) (d : List ℕ) → Seen g e size old st
-        → kindsIn (inPass first) g st (editFrom e d) (firstSlot g (e .off) + j) ≡ only (inPass first) (t .kind)
-    kinds-are st d s = ap (only (inPass first)) (sym (t .kind-is .is st d (s .size-is) (seen-word s j h)))
+        → kindsIn (inPass first) g st (editFrom e d) (firstSlot g (e .off) + j) ≡ only (inPass first) kind
+    kinds-are st d s = ap (only (inPass first)) (sym (is .is st d (s .size-is) (seen-word s j h)))
 
     one-more : slotCount g (e .off) (e .end) - j ≡ suc (slotCount g (e .off) (e .end) - (j + 1))
     one-more = omega arith
 
     -- a slot that is done
-    pub pass-turn : not done ≡ false → Passing g e size first old ws₀ cs₀ after cs′ (j + 1)
+    pub pass-turn : {from : ℕ} → next ≡ Search.Search.From from → Passing g e size first old ws₀ cs₀ after cs′ (j + 1) from
     unfolding run
     pass-turn ok =
         let k : ℕ = firstSlot g (e .off) + j in
         let i : ℕ = e .file * g .S + k in
-        let c : Kind = only (inPass first) (t .kind) in
-        let is : after ≡ become c ws i = rw (not-false done ok) at (t .changed .words-are) in
-        let next : firstSlot g (e .off) + (j + 1) ≡ suc k = omega arith in
+        let c : Kind = only (inPass first) kind in
+        let to : after ≡ become c ws i = rw ok at (changed-at .words-are) in
+        let more : firstSlot g (e .off) + (j + 1) ≡ suc k = omega arith in
         record {
           within = omega arith;
           blocks = same ∙ l .blocks;
-          counted = t .changed .counted;
+          counted = t .counted;
+          low = rw ok at (t .searched);
           outside = outside-trans (l .outside) (record {
-            slots = ap length is ∙ become-length c ws i;
-            same = λ p w. rw is (become-local c ws i p (apart p w));
+            slots = ap length to ∙ become-length c ws i;
+            same = λ p w. rw to (become-local c ws i p (apart p w));
           });
-          left = λ st d s. rw next
+          left = λ st d s. rw more
               (ap (λ x. each (run (e .file * g .S) (kindsIn (inPass first) g st (editFrom e d))) x (suc k) (slotCount g (e .off) (e .end) - (j + 1)))
-              (is ∙ ap (λ a. become a ws i) (sym (kinds-are st d s)))
+              (to ∙ ap (λ a. become a ws i) (sym (kinds-are st d s)))
               ∙ (rw one-more at (l .left st d s)));
         }
       where
@@ -173,16 +184,16 @@ module _ {g : Geometry} {e : CodeEdit.Edit} {size : ℕ} {first : Bool} {old ws�
         apart p (inr w) q = omega arith
 
     -- the slot that stops the loop
-    pub pass-stop : indexOf g e + slotCount g (e .off) (e .end) ≤ length ws₀ → not done ≡ true → Passed g e size first old ws₀ false after cs′
+    pub pass-stop : indexOf g e + slotCount g (e .off) (e .end) ≤ length ws₀ → goesOn next ≡ false → Passed g e size first old ws₀ false after cs′
     pass-stop room ends =
-        let none = t .changed .stopped (not-true done ends) in
-        let is : after ≡ ws = rw (not-true done ends) at (t .changed .words-are) in
+        let none = changed-at .stopped ends in
+        let to : after ≡ ws = rw ends at (t .words-are) in
         let k : ℕ = firstSlot g (e .off) + j in
         record {
-          counted = t .changed .counted;
-          outside = rw is (l .outside);
+          counted = t .counted;
+          outside = rw to (l .outside);
           words-are = λ q. absurd (true≢false (sym q));
-          stopped = λ q. only-owns (inPass first) (t .kind) (none .asked);
+          stopped = λ q. only-owns (inPass first) kind (none .asked);
           unfit = λ q st d s. rw (same, ← l .left st d s, one-more)
               (run-stop (e .file * g .S) (kindsIn (inPass first) g st (editFrom e d))
               (owns-keeps first g st (editFrom e d) k (kinds-are st d s ∙ none .asked))
@@ -214,13 +225,19 @@ module _ {g : Geometry} {e : CodeEdit.Edit} {n : ℕ} {ws cs old : List ℕ} (k 
     changed : Outside ws (indexOf g e) n last
     changed = rw all (outside-trans (a .outside) (b .outside))
 
-    -- what `undo` and `settle` ask
-    pub undo-ready : length cs₁ ≡ length cs → length cs₂ ≡ length cs₁
-        → TableTrue last cs₂ × ((indexOf g e + length old ≤ length last) × InPool (length cs₂) old)
-    undo-ready p q = (
-      b .counted,
-      (omega (arith, edit-inside k, k .saves, changed .slots), saved-pool ws (indexOf g e) n old saved (length cs₂) (rw (q, p) (k .counted .pool))),
-    )
+    -- what `undo` asks, and `settle`
+    pub undo-ready : length cs₁ ≡ length cs → length cs₂ ≡ length cs₁ → Undoable last cs₂ (indexOf g e) old
+    undo-ready p q = record {
+      counted = b .counted;
+      inside = omega (arith, edit-inside k, k .saves, changed .slots);
+      pool = saved-pool ws (indexOf g e) n old saved (length cs₂) (rw (q, p) (k .counted .pool));
+    }
+
+    pub settle-ready : fitsPool (length cs) ws ≡ true → length cs₁ ≡ length cs → length cs₂ ≡ length cs₁ → Settleable last cs₂ (indexOf g e) old
+    settle-ready fits p q = record {
+      undoable = undo-ready p q;
+      fitted = rw (q, p, saved-back ws (indexOf g e) n old saved (rw all (edit-inside k)) changed) fits;
+    }
 
     module _ (sizes mem d : List ℕ) (is : getD sizes (e .file) 0 ≡ size) where
       before : Store

@@ -1,24 +1,52 @@
 -- A plan in place, kept where it fits the pool and else undone: the old words go back, and no other slot has changed.
 use Prim.Native.Nat.{ℕ, _+_, _/_, _≤_, _<_, _-_}
-use mathlib.Core.Path.{_≡_, refl, sym, _∙_}
+use mathlib.Core.Path.{_≡_, refl, sym, ap, _∙_}
 use mathlib.Core.Bool.{Bool, true, false}
 use mathlib.Core.List.{List}
 use mathlib.Core.Logic.{inl, inr}
 use native.Mathlib.Decide.{decLt}
 use native.Mathlib.Omega.{arith}
+use borrow.Author.Tests.{eqb-true}
 use lib.ListN.{length, getD, take, drop, length-take, length-drop, List·getD-eq-default}
+use lib.Dec.{eqb, leb}
 use lib.Seq.{getD-take, getD-drop, length-take-le, ext-getD}
 use Rattle.xdr.specs.Bytes.{splice}
 use Rattle.xdr.proofs.BytesLaws.{length-splice, splice-in, splice-below, splice-above}
-use Rattle.rules.specs.Store.{fitsPool}
+use Rattle.rules.specs.Lists.{allTo}
+use Rattle.rules.specs.Store.{need, fitsPool}
 use Rattle.rules.proofs.PlanLaws.{InPool}
+use Rattle.rules.proofs.SoundLaws.{allTo-at}
 use Rattle.tables.specs.Tables.{TableTrue}
 use Rattle.store.specs.Plan.{Planned, Outside, Undone}
+use Rattle.store.proofs.StoreLaws.{splice-same}
 
 -- ---- kept or undone
 
 pub planned-kept : {back planned cs : List ℕ} → TableTrue planned cs → fitsPool (length cs) planned ≡ true → Planned back planned true planned cs
 planned-kept h e = record { answer = sym e; words-are = rw e; counted = h }
+
+-- the words where those of old are to go, as the code takes them
+module _ (ws old : List ℕ) (i : ℕ) (inside : i + length old ≤ length ws) where
+  abbrev part : List ℕ
+  part = take (i + length old - i) (drop i ws)
+
+  -- what `same_words` asks
+  pub same-asked : length (take (i + length old - i) (drop i ws)) ≡ length old
+  same-asked = length-take-le (i + length old - i) (drop i ws) (rw (length-drop i ws) (omega arith)) ∙ omega arith
+
+  -- where they are those of old, the need is what it was, and fits
+  module _ (same : allTo (length part) (λ k. eqb (getD part k 0) (getD old k 0)) ≡ true) where
+    unchanged : ws ≡ splice ws i old
+    unchanged =
+        let is : part ≡ old = ext-getD 0 part old same-asked (λ k h. eqb-true (getD part k 0) (getD old k 0) (allTo-at (length part) _ same k h)) in
+        let all : i + length old - i ≡ length old = omega arith in
+        sym (splice-same ws i (length old) inside) ∙ ap (splice ws i) (ap (λ n. take n (drop i ws)) (sym all) ∙ is)
+
+    need-same : need ws ≡ need (splice ws i old)
+    need-same = ap need unchanged
+
+    pub planned-same : (cs : List ℕ) → TableTrue ws cs → fitsPool (length cs) (splice ws i old) ≡ true → Planned (splice ws i old) ws true ws cs
+    planned-same cs h fitted = planned-kept h (ap (λ x. leb x (length cs)) need-same ∙ fitted)
 
 -- undone in a pool of m blocks
 pub planned-back : {back planned after cs : List ℕ} {m : ℕ} → fitsPool m planned ≡ false → length cs ≡ m → after ≡ back → TableTrue after cs
@@ -56,7 +84,7 @@ module _ (ws : List ℕ) (i n : ℕ) (old : List ℕ) (saved : old ≡ take (i +
     old-long = rw saved-is (length-take-le n (drop i ws) (rw (length-drop i ws) (omega arith)))
 
     -- stored again
-    saved-back : splice mid i old ≡ ws
+    pub saved-back : splice mid i old ≡ ws
     saved-back = ext-getD 0 (splice mid i old) ws (long ∙ o .slots) (λ p h. low p (omega (arith, long, o .slots)) (decLt p i))
       where
         long : length (splice mid i old) ≡ length mid

@@ -27,7 +27,7 @@ use Rattle.store.proofs.PartLaws.{overlay-ext, overlay-splice, write-pa
 -- ---- splices
 
 -- a part over itself
-splice-same : (m : List ℕ) (a n : ℕ) → a + n ≤ length m → splice m a (take n (drop a m)) ≡ m
+pub splice-same : (m : List ℕ) (a n : ℕ) → a + n ≤ length m → splice m a (take n (drop a m)) ≡ m
 unfolding splice
 splice-same m a n h =
     let e : length (take n (drop a m)) ≡ n = length-take n (drop a m) ∙ rw (length-drop a m) (omega arith) in

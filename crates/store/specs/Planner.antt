@@ -6,9 +6,11 @@ use mathlib.Core.List.{List}
 use lib.ListN.{length, getD, take, drop}
 use Rattle.rules.specs.Store.{Geometry, goodGeometry, Store, sizeOf, wordOf, holeOrShared, lowestFree, fitsPool}
 use Rattle.rules.specs.Edit.{firstSlot, slotCount, Kind, owns, given, shares, reserved, stays, isGiven, kindOf, become, pass, plan}
+use Rattle.tables.specs.Tally.{firstZero}
 use Rattle.tables.specs.Tables.{TableTrue}
 use Rattle.store.specs.declared.edit.Act as Code
 use Rattle.store.specs.declared.edit.Edit as CodeEdit
+use Rattle.store.specs.declared.edit.Search as Search
 use Rattle.store.specs.Edits.{editFrom}
 use Rattle.store.specs.Plan.{Planned, Outside}
 
@@ -58,17 +60,35 @@ pub record KindIs (g : Geometry) (e : CodeEdit.Edit) (size k w : ℕ) (c : Kind)
   pub is : (st : Store) (d : List ℕ) → sizeOf st (e .file) ≡ size → wordOf g (st .words) (e .file) k ≡ w → c ≡ kindOf g st (editFrom e d) k
   pub inside : SharesIn (g .F * g .S) c
 
+-- slot i can be changed: its table is true, a slot that it shares lies in the table too, and no block below `from` is free
+pub record Changeable (ws counts : List ℕ) (i : ℕ) (c : Kind) (from : ℕ) : Type 0 where
+  pub counted : TableTrue ws counts
+  pub slot : i < length ws
+  pub source : SharesIn (length ws) c
+  pub low : from ≤ firstZero counts
+
 -- slot i is to own a block, takes one, and none of n is free
 pub record NoBlock (c : Kind) (ws : List ℕ) (i n : ℕ) : Type 0 where
   pub asked : c ≡ owns
   pub wants : holeOrShared ws (getD ws i 0) ≡ true
   pub full : n ≤ lowestFree ws
 
+-- whether the search goes on: the slot is done
+abbrev pub goesOn : Search.Search → Bool
+goesOn (Search.Search.From b) = true
+goesOn Search.Search.Full = false
+
+-- no block below the one from which it goes on is free
+abbrev pub NoneBelow : Search.Search → List ℕ → Type 0
+NoneBelow (Search.Search.From b) counts = b ≤ firstZero counts
+NoneBelow Search.Search.Full counts = Unit {0}
+
 -- slot i after its kind; not done, and nothing changed, where there is no block for it
-pub record SlotChanged (c : Kind) (ws counts : List ℕ) (i : ℕ) (done : Bool) (after counts′ : List ℕ) : Type 0 where
-  pub words-are : after ≡ cond done (become c ws i) ws
+pub record SlotChanged (c : Kind) (ws counts : List ℕ) (i : ℕ) (s : Search.Search) (after counts′ : List ℕ) : Type 0 where
+  pub words-are : after ≡ cond (goesOn s) (become c ws i) ws
   pub counted : TableTrue after counts′
-  pub stopped : done ≡ false → NoBlock c ws i (length counts)
+  pub searched : NoneBelow s counts′
+  pub stopped : goesOn s ≡ false → NoBlock c ws i (length counts)
 
 -- ---- a pass
 
@@ -80,12 +100,6 @@ inPass false c = not (isGiven c)
 -- in a pass that is not its own a slot stays
 abbrev pub only : (Kind → Bool) → Kind → Kind
 only p c = cond (p c) c stays
-
--- slot k after its part of a pass
-pub record SlotPassed (g : Geometry) (e : CodeEdit.Edit) (size : ℕ) (first : Bool) (k w : ℕ) (ws counts : List ℕ) (done : Bool) (after counts′ : List ℕ) : Type 0 where
-  pub kind : Kind
-  pub kind-is : KindIs g e size k w kind
-  pub changed : SlotChanged (only (inPass first) kind) ws counts (e .file * g .S + k) done after counts′
 
 -- the index of e's first slot
 abbrev pub indexOf : Geometry → CodeEdit.Edit → ℕ

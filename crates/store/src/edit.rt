@@ -35,3 +35,11 @@ pub enum Kind {
     Reserved,
     Stays,
 }
+
+// How the search for free blocks goes on after a slot.
+pub enum Search {
+    // No block below this one is free.
+    From(usize),
+    // The slot takes a block, and none is free.
+    Full,
+}

@@ -3,15 +3,16 @@ ghost use mathlib.Core.Path.{_≡_};
 ghost use mathlib.Core.Bool.{true, cond};
 ghost use Prim.Native.Nat.{_*_, _<_};
 ghost use lib.ListN.{length};
-ghost use Rattle.rules.specs.Store.{goodGeometry, isHole};
+ghost use Rattle.rules.specs.Store.{goodGeometry, isHole, fitsPool};
 ghost use Rattle.rules.specs.Edit.{isOwned, given, owns, reserved, shares, stays, givesBack};
 ghost use Rattle.tables.specs.Lent.{geometryOf};
 ghost use Rattle.tables.specs.Tables.{TableTrue};
 ghost use Rattle.store.specs.Edits.{kindFrom};
-ghost use Rattle.store.specs.Planner.{SlotOf, KindIs, SharesIn, SlotChanged, inPass, SlotPassed, Plannable, Passed, EditPlanned};
+ghost use Rattle.store.specs.Planner.{SlotOf, KindIs, Changeable, SlotChanged, inPass, only, Plannable, Passed, EditPlanned};
 use crate::edit::Act;
 use crate::edit::Edit;
 use crate::edit::Kind;
+use crate::edit::Search;
 use crate::plan::own_slot;
 use crate::plan::save_words;
 use crate::plan::settle;
@@ -69,45 +70,46 @@ pub fn kind_of(g: Geometry, e: Edit, size: usize, k: usize, w: u32) -> Kind
 }
 
 // Slot i takes the block, or the hole, of slot p, and keeps its r.
-fn share_slot(words: &mut [u32], counts: &mut [u32], i: usize, p: usize) -> bool
+fn share_slot(words: &mut [u32], counts: &mut [u32], i: usize, p: usize) -> Search
     requires { ⌜ TableTrue (now words) (now counts) × ((i < length (now words)) × (p < length (now words))) ⌝ }
     ensures { λ r. ⌜ SlotChanged (shares p) (now (words .entry)) (now (counts .entry)) i r (now (words .exit)) (now (counts .exit)) ⌝ }
 {
     let w = 2 * (words[p] / 2) + words[i] % 2;
     set_word(words, counts, i, w);
-    true
+    Search::From(0)
 }
 
 // Sets r in slot i.
-fn reserve_slot(words: &mut [u32], counts: &mut [u32], i: usize) -> bool
+fn reserve_slot(words: &mut [u32], counts: &mut [u32], i: usize) -> Search
     requires { ⌜ TableTrue (now words) (now counts) × (i < length (now words)) ⌝ }
     ensures { λ r. ⌜ SlotChanged reserved (now (words .entry)) (now (counts .entry)) i r (now (words .exit)) (now (counts .exit)) ⌝ }
 {
     let w = 2 * (words[i] / 2) + 1;
     set_word(words, counts, i, w);
-    true
+    Search::From(0)
 }
 
 // Word 0.
-fn give_slot(words: &mut [u32], counts: &mut [u32], i: usize) -> bool
+fn give_slot(words: &mut [u32], counts: &mut [u32], i: usize) -> Search
     requires { ⌜ TableTrue (now words) (now counts) × (i < length (now words)) ⌝ }
     ensures { λ r. ⌜ SlotChanged given (now (words .entry)) (now (counts .entry)) i r (now (words .exit)) (now (counts .exit)) ⌝ }
 {
     set_word(words, counts, i, 0);
-    true
+    Search::From(0)
 }
 
-// Does to slot i of the table what its kind says. Answers false, and changes nothing, where it takes a block and none is free.
-fn change_slot(words: &mut [u32], counts: &mut [u32], i: usize, kind: Kind) -> bool
-    requires { ⌜ TableTrue (now words) (now counts) × ((i < length (now words)) × SharesIn (length (now words)) (kindFrom kind)) ⌝ }
+// Does to slot i of the table what its kind says. No block below `from` is free; a word that is stored for another reason than to take
+// a block may free one, and the search begins anew.
+fn change_slot(words: &mut [u32], counts: &mut [u32], i: usize, kind: Kind, from: usize) -> Search
+    requires { ⌜ Changeable (now words) (now counts) i (kindFrom kind) from ⌝ }
     ensures { λ r. ⌜ SlotChanged (kindFrom kind) (now (words .entry)) (now (counts .entry)) i r (now (words .exit)) (now (counts .exit)) ⌝ }
 {
     match kind {
-        Kind::Owns => own_slot(words, counts, i),
+        Kind::Owns => own_slot(words, counts, i, from),
         Kind::Given => give_slot(words, counts, i),
         Kind::Shares(p) => share_slot(words, counts, i, p),
         Kind::Reserved => reserve_slot(words, counts, i),
-        Kind::Stays => true,
+        Kind::Stays => Search::From(from),
     }
 }
 
@@ -137,26 +139,22 @@ pub fn is_owned(kind: Kind) -> bool
     }
 }
 
-// One slot of a pass: slot k of e's file, whose word before the edit is w. Answers as change_slot.
+// Slot i in a pass: where that is not its own it stays.
 fn pass_slot(
-    g: Geometry,
     words: &mut [u32],
     counts: &mut [u32],
-    e: Edit,
-    size: usize,
+    i: usize,
+    kind: Kind,
     first: bool,
-    k: usize,
-    w: u32,
-) -> bool
-    requires { ⌜ SlotOf (geometryOf g) e k × (TableTrue (now words) (now counts) × (length (now words) ≡ g .files * g .slots)) ⌝ }
-    ensures { λ r. ⌜ SlotPassed (geometryOf g) e size first k w (now (words .entry)) (now (counts .entry)) r (now (words .exit)) (now (counts .exit)) ⌝ }
+    from: usize,
+) -> Search
+    requires { ⌜ Changeable (now words) (now counts) i (kindFrom kind) from ⌝ }
+    ensures { λ r. ⌜ SlotChanged (only (inPass first) (kindFrom kind)) (now (words .entry)) (now (counts .entry)) i r (now (words .exit)) (now (counts .exit)) ⌝ }
 {
-    let kind = kind_of(g, e, size, k, w);
     if !in_pass(first, kind) {
-        return true;
+        return Search::From(from);
     }
-    let f = e.file;
-    change_slot(words, counts, f * g.slots + k, kind)
+    change_slot(words, counts, i, kind, from)
 }
 
 // A pass over the slots of e, whose words before the edit are `old`, in rising order: in the first pass those that are given back, in the
@@ -173,13 +171,16 @@ fn pass(
     requires { ⌜ Plannable (geometryOf g) e (now words) (now counts) (now old) ⌝ }
     ensures { λ r. ⌜ Passed (geometryOf g) e size first (now (old .entry)) (now (words .entry)) r (now (words .exit)) (now (counts .exit)) ⌝ }
 {
-    let off = e.off;
-    let from = off / g.block_size;
+    let k = e.off / g.block_size;
+    let i = e.file * g.slots + k;
+    let mut from = 0;
     let mut j = 0;
     while j < old.len() {
-        if !pass_slot(g, words, counts, e, size, first, from + j, old[j]) {
+        let kind = kind_of(g, e, size, k + j, old[j]);
+        let Search::From(next) = pass_slot(words, counts, i + j, kind, first, from) else {
             return false;
-        }
+        };
+        from = next;
         j += 1;
     }
     true
@@ -194,7 +195,7 @@ pub fn plan(
     size: usize,
     old: &mut [u32],
 ) -> bool
-    requires { ⌜ Plannable (geometryOf g) e (now words) (now counts) (now old) ⌝ }
+    requires { ⌜ Plannable (geometryOf g) e (now words) (now counts) (now old) × (fitsPool (length (now counts)) (now words) ≡ true) ⌝ }
     ensures { λ r. ⌜ EditPlanned (geometryOf g) e size (now (words .entry)) r (now (words .exit)) (now (counts .exit)) (now (old .exit)) ⌝ }
 {
     let f = e.file;

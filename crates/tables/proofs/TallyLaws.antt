@@ -8,14 +8,14 @@ use native.Mathlib.Nat.{le-of-suc-le-suc}
 use native.Mathlib.Decide.{decLt}
 use native.Mathlib.Numerals.{add-one, sub-one}
 use native.Mathlib.Omega.{arith}
-use borrow.Author.Tests.{eq-eqb, ne-eqb, eqb-true, eqb-false}
-use lib.ListN.{length, getD, set, drop, drop-of-length-le}
-use lib.Seq.{drop-cons, getD-set-same, getD-set-other}
+use borrow.Author.Tests.{eq-eqb, ne-eqb, eqb-true, eqb-false, ltb-true}
+use lib.ListN.{length, getD, set, take, drop, length-drop}
+use lib.Seq.{getD-set-same, getD-set-other, getD-take, getD-drop, length-take-le}
 use lib.Dec.{ltb, eqb}
 use Rattle.rules.specs.Lists.{bit, count, sumTo, countTo, allTo}
 use Rattle.rules.specs.Store.{isHole, isReserved, isShared, holds, holders, blockBound, used, owes, owed, lowestFree}
 use Rattle.tables.specs.Tables.{Tallied}
-use Rattle.tables.specs.Tally.{noted, takesBy, owesBy, firstZero}
+use Rattle.tables.specs.Tally.{noted, takesBy, owesBy, firstZero, HeldFrom}
 use Rattle.rules.proofs.CountLaws.{sumTo-ext, count-drop}
 use Rattle.rules.proofs.NeedLaws.{lowestFree-free, scan-ends, used-to}
 use Rattle.rules.proofs.SoundLaws.{allTo-at}
@@ -81,30 +81,15 @@ pub noted-turn : (ws cs : List ℕ) (i b : ℕ) → i < length ws → b < length
     → getD (noted (getD ws i 0 / 2) cs) b 0 + holders b (drop (i + 1) ws) ≡ getD cs b 0 + holders b (drop i ws)
 noted-turn ws cs i b h k = rw (add-one i) (omega (arith, noted-at (getD ws i 0 / 2) cs b k, count-drop (holds b) ws i h))
 
--- ---- the search for the first 0, from place i on
+-- ---- the search for the first 0
 
-pub first-hit : (l : List ℕ) (i : ℕ) → i < length l → getD l i 0 ≡ 0 → firstZero (drop i l) ≡ 0
-unfolding firstZero
-first-hit l i h e = rw (drop-cons l i 0 h, e)
-
-pub first-miss : (l : List ℕ) (i : ℕ) → i < length l → getD l i 0 ≢ 0 → firstZero (drop i l) ≡ suc (firstZero (drop (i + 1) l))
-unfolding firstZero
-first-miss l i h d =
-    let e : getD l i 0 ≡ suc (pred (getD l i 0)) = omega arith in
-    rw (drop-cons l i 0 h, add-one i, e)
-
-pub first-end : (l : List ℕ) (i : ℕ) → length l ≤ i → firstZero (drop i l) ≡ 0
-unfolding firstZero
-first-end l i h = rw (drop-of-length-le l h)
-
--- what it finds
 first-zero : (l : List ℕ) → firstZero l < length l → getD l (firstZero l) 0 ≡ 0
 unfolding firstZero
 first-zero [] h = refl
 first-zero (zero ∷ l) h = refl
 first-zero (suc x ∷ l) h = first-zero l (le-of-suc-le-suc h)
 
-first-below : (l : List ℕ) (b : ℕ) → b < firstZero l → (b < length l) × (1 ≤ getD l b 0)
+pub first-below : (l : List ℕ) (b : ℕ) → b < firstZero l → (b < length l) × (1 ≤ getD l b 0)
 unfolding firstZero
 first-below [] b h = absurd (omega arith)
 first-below (zero ∷ l) b h = absurd (omega arith)
@@ -112,6 +97,60 @@ first-below (suc x ∷ l) zero h = omega arith
 first-below (suc x ∷ l) (suc b) h =
     let r = first-below l b (le-of-suc-le-suc h) in
     (omega arith, r .1)
+
+-- it is not below b where none below b is 0
+pub first-from : (l : List ℕ) (b : ℕ) → b ≤ length l → ((c : ℕ) → c < b → 0 < getD l c 0) → b ≤ firstZero l
+first-from l b h held = go (decLt (firstZero l) b)
+  where
+    go : Dec (firstZero l < b) → b ≤ firstZero l
+    go (yes k) = absurd (omega (arith, held (firstZero l) k, first-zero l (omega arith)))
+    go (no d) = omega (arith, d)
+
+module _ (l : List ℕ) (b : ℕ) (from : b ≤ firstZero l) where
+  -- it is b where b is 0, and where nothing is left
+  pub first-here : (b < length l → getD l b 0 ≡ 0) → b ≡ firstZero l
+  first-here h = go (decLt b (firstZero l))
+    where
+      go : Dec (b < firstZero l) → b ≡ firstZero l
+      go (yes k) = let r = first-below l b k in absurd (omega (arith, r .1, h (r .0)))
+      go (no d) = omega (arith, d)
+
+  pub first-behind : (n : ℕ) → HeldFrom l b n → b + n ≤ firstZero l
+  first-behind n h = first-from l (b + n) (h .inside) (λ c u. go c u (decLt c b))
+    where
+      go : (c : ℕ) → c < b + n → Dec (c < b) → 0 < getD l c 0
+      go c u (yes k) = first-below l c (omega arith) .1
+      go c u (no d) =
+          let j : ℕ = c - b in
+          let e : b + j ≡ c = omega (arith, d) in
+          rw e at (h .held j (omega (arith, d)))
+
+-- ---- how many are seen to be held
+
+module _ (l : List ℕ) (b : ℕ) (inside : b < length l) where
+  pub held-none : getD l b 0 ≡ 0 → HeldFrom l b 0
+  held-none e = record { inside = omega arith; held = λ j h. absurd (omega arith); free = λ q. e }
+
+  pub held-one : 0 < getD l b 0 → HeldFrom l b 1
+  held-one e = record {
+    inside = omega arith;
+    held = λ j h.
+        let z : b + j ≡ b = omega arith in
+        rw z e;
+    free = λ q. absurd (omega arith);
+  }
+
+  -- the n from b on, as the code takes them
+  pub held-group : (n : ℕ) → n ≢ 0 → b + n ≤ length l
+      → allTo (length (take (b + n - b) (drop b l))) (λ j. ltb 0 (getD (take (b + n - b) (drop b l)) j 0)) ≡ true → HeldFrom l b n
+  held-group n some room e =
+      let part : List ℕ = take (b + n - b) (drop b l) in
+      let long : length part ≡ b + n - b = length-take-le (b + n - b) (drop b l) (rw (length-drop b l) (omega arith)) in
+      record {
+        inside = room;
+        held = λ j h. rw (getD-take (b + n - b) (drop b l) j 0 (omega arith), getD-drop b l j 0) at (ltb-true 0 (getD part j 0) (allTo-at (length part) _ e j (omega (arith, long))));
+        free = λ q. absurd (some q);
+      }
 
 -- ---- read off the table
 

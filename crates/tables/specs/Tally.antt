@@ -1,5 +1,5 @@
 -- The table of holders, filled by one pass over the slot words, and what is read off it.
-use Prim.Native.Nat.{ℕ, zero, suc, pred, _+_, _-_, _/_, _≤_}
+use Prim.Native.Nat.{ℕ, zero, suc, pred, _+_, _-_, _/_, _≤_, _<_}
 use mathlib.Core.Path.{_≡_}
 use mathlib.Core.Bool.{Bool, _&&_, _||_}
 use mathlib.Core.List.{List, [], _∷_}
@@ -37,3 +37,9 @@ unfoldable pub firstZero : List ℕ → ℕ
 firstZero [] = 0
 firstZero (zero ∷ xs) = 0
 firstZero (suc x ∷ xs) = suc (firstZero xs)
+
+-- the n blocks from b on have a holder; none where block b has none
+pub record HeldFrom (counts : List ℕ) (b n : ℕ) : Type 0 where
+  pub inside : b + n ≤ length counts
+  pub held : (j : ℕ) → j < n → 0 < getD counts (b + j) 0
+  pub free : n ≡ 0 → getD counts b 0 ≡ 0

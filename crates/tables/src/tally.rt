@@ -1,11 +1,12 @@
 // One pass over the slot words counts the holders of each block. Used and owed blocks and the lowest free one are read off the counts.
 ghost use mathlib.Core.Path.{_≡_};
+ghost use mathlib.Core.Bool.{_&&_};
 ghost use Prim.Native.Nat.{ℕ, _/_, _<_, _≤_};
 ghost use lib.ListN.{length, getD};
 ghost use lib.Dec.{leb, ltb};
 ghost use Rattle.rules.specs.Lists.{allTo, bit, count};
 ghost use Rattle.tables.specs.Tables.{Tallied};
-ghost use Rattle.tables.specs.Tally.{noted, Untallied, takesBy, owesBy, firstZero};
+ghost use Rattle.tables.specs.Tally.{noted, Untallied, takesBy, owesBy, firstZero, HeldFrom};
 ghost use Rattle.rules.proofs.PlanLaws.{InPool};
 
 // Whether every word names one of the blocks, or none.
@@ -110,16 +111,69 @@ pub fn owed_slots(words: &[u32], counts: &[u32]) -> usize
     n
 }
 
-// The first block without a holder; their number where each has one.
-pub fn lowest_free(counts: &[u32]) -> usize
-    ensures { λ r. ⌜ r ≡ firstZero (now (counts .entry)) ⌝ }
+// Blocks are looked at in groups.
+struct Group {}
+
+impl Group {
+    const SIZE: usize = 16;
+}
+
+// Whether those before are held and a block with n holders is.
+fn held_too(held: bool, n: u32) -> bool
+    ensures { λ r. ⌜ r ≡ (ltb 0 n && held) ⌝ }
 {
+    if n == 0 {
+        return false;
+    }
+    held
+}
+
+// Whether each of these blocks is held. There is no way out of the loop, so that many are looked at at a time.
+fn all_held(counts: &[u32]) -> bool
+    ensures { λ r. ⌜ r ≡ allTo (length (now (counts .entry))) (λ b. ltb 0 (getD (now (counts .entry)) b 0)) ⌝ }
+{
+    let mut held = true;
     let mut b = 0;
     while b < counts.len() {
-        if counts[b] == 0 {
+        held = held_too(held, counts[b]);
+        b += 1;
+    }
+    held
+}
+
+// How many blocks from b on are seen to be held: none, block b, or the group that starts there.
+fn held_from(counts: &[u32], b: usize) -> usize
+    requires { ⌜ b < length (now counts) ⌝ }
+    ensures { λ r. ⌜ HeldFrom (now (counts .entry)) b r ⌝ }
+{
+    if counts[b] == 0 {
+        return 0;
+    }
+    if b % Group::SIZE != 0 {
+        return 1;
+    }
+    if counts.len() - b < Group::SIZE {
+        return 1;
+    }
+    if !all_held(&counts[b..b + Group::SIZE]) {
+        return 1;
+    }
+    Group::SIZE
+}
+
+// The first block without a holder, which is not below `from`; their number where each has one. No block is looked at more than once
+// in its group and once alone.
+pub fn lowest_free(counts: &[u32], from: usize) -> usize
+    requires { ⌜ from ≤ firstZero (now counts) ⌝ }
+    ensures { λ r. ⌜ r ≡ firstZero (now (counts .entry)) ⌝ }
+{
+    let mut b = from;
+    while b < counts.len() {
+        let n = held_from(counts, b);
+        if n == 0 {
             return b;
         }
-        b += 1;
+        b += n;
     }
     b
 }

@@ -71,6 +71,11 @@ pub struct Case {
 pub enum Work {
     /// Compounds, served one after the other.
     Serve(Vec<Vec<u8>>),
+    /// One compound, again and again. Between two, and not timed, another that gives back what it took.
+    Again {
+        request: Vec<u8>,
+        back: Option<Vec<u8>>,
+    },
     Soundness,
     CountBlocks,
 }
@@ -89,21 +94,26 @@ impl Case {
             Kind::Clone => written(&geometry, CLONED),
             _ => sparse(&geometry),
         };
+        Case::checked(geometry, store, calls, work)
+    }
+
+    /// Every compound must end in OK.
+    pub fn checked(geometry: Geometry, store: Store, calls: usize, work: Work) -> Case {
         let case = Case {
             geometry,
             store,
             calls,
             work,
         };
-        case.check();
+        match &case.work {
+            Work::Serve(requests) => case.check(requests),
+            Work::Again { request, back } => case.check([request].into_iter().chain(back)),
+            Work::Soundness | Work::CountBlocks => {}
+        }
         case
     }
 
-    /// Every compound must end in OK.
-    fn check(&self) {
-        let Work::Serve(requests) = &self.work else {
-            return;
-        };
+    fn check<'a>(&self, requests: impl IntoIterator<Item = &'a Vec<u8>>) {
         let mut store = self.store.clone();
         let mut reply = vec![0; REPLY_MIN];
         for request in requests {

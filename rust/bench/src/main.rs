@@ -1,11 +1,13 @@
 //! Times the proved server and the program in plain Rust on the same recordings, or writes a
 //! recording of frames.
 //!
-//! `bench` prints the tables, `bench record LINES` that many requests, `bench pairs PAIRS` that many
+//! `bench` prints the tables, `bench picks [BEFORE]` that of the WRITEs that take free blocks, beside
+//! the same program linked with another archive, `bench record LINES` that many requests, `bench pairs PAIRS` that many
 //! of the same requests, each with its answer behind it.
 
 mod case;
 mod measure;
+mod pick;
 mod record;
 
 use std::io;
@@ -19,6 +21,12 @@ fn main() -> io::Result<ExitCode> {
     let words: Vec<&str> = words.iter().map(String::as_str).collect();
     match words[..] {
         [] => with_stack(measure::tables),
+        ["picks"] => with_stack(|| measure::picks(None)),
+        ["picks", before] => with_stack(|| measure::picks(Some(before))),
+        ["pick", number] => match number.parse() {
+            Ok(number) => with_stack(|| measure::pick(number)),
+            Err(_) => return Ok(usage()),
+        },
         ["record", lines] => return record(lines, Written::Request),
         ["pairs", pairs] => return record(pairs, Written::RequestAndAnswer),
         _ => return Ok(usage()),
@@ -35,6 +43,6 @@ fn record(requests: &str, written: Written) -> io::Result<ExitCode> {
 }
 
 fn usage() -> ExitCode {
-    eprintln!("arguments: none, or record LINES, or pairs PAIRS");
+    eprintln!("arguments: none, or picks [BEFORE], or record LINES, or pairs PAIRS");
     ExitCode::from(2)
 }

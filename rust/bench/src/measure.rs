@@ -1,12 +1,16 @@
 //! Both servers in turn, the median of several runs.
 
 use std::hint::black_box;
-use std::time::Instant;
+use std::process::Command;
+use std::time::{Duration, Instant};
 
 use compare::{Proved, Second, Server};
 use second::{Geometry, Store, REPLY_MIN};
 
 use crate::case::{self, Case, Kind, Work, VERIFIER};
+use crate::pick;
+
+const SERVERS: [&dyn Server; 2] = [&Proved, &Second];
 
 const RUNS: usize = 7;
 
@@ -33,6 +37,57 @@ pub fn tables() {
         }
     }
     sweep();
+}
+
+/// The WRITEs of `pick`. `before` is this program, linked with another archive: its times stand beside those of this one.
+pub fn picks(before: Option<&str>) {
+    println!("Nanoseconds per call, median of {RUNS} runs, each call timed by itself.\n");
+    println!("| WRITE | Geometry | Before | Proved | Plain | Ratio before | Ratio |");
+    println!("|---|---|---|---|---|---|---|");
+    for (number, pick) in pick::ALL.iter().enumerate() {
+        let case = pick.case();
+        let mut times: [Vec<u128>; 3] = Default::default();
+        let mut store = case.store.clone();
+        for _ in 0..RUNS {
+            times[0].extend(before.map(|program| other(program, number)));
+            for (server, times) in SERVERS.iter().zip(&mut times[1..]) {
+                times.push(run(*server, &case, &mut store));
+            }
+        }
+        let [before, proved, plain] = times.map(|times| median(times));
+        let ratio = |time: Option<u128>| time.map(|time| time as f64 / plain.unwrap_or(1) as f64);
+        println!(
+            "| {} | {} | {} | {} | {} | {} | {} |",
+            pick.name,
+            four(&pick.geometry),
+            cell(before),
+            cell(proved),
+            cell(plain),
+            cell(ratio(before).map(|ratio| format!("{ratio:.2}"))),
+            cell(ratio(proved).map(|ratio| format!("{ratio:.2}"))),
+        );
+    }
+}
+
+/// One run of a pick by the archive that is linked.
+pub fn pick(number: usize) {
+    let case = pick::ALL[number].case();
+    let mut store = case.store.clone();
+    println!("{}", run(&Proved, &case, &mut store));
+}
+
+/// One run of a pick by another such program.
+fn other(program: &str, number: usize) -> u128 {
+    let output = Command::new(program)
+        .args(["pick", &number.to_string()])
+        .output();
+    let output = output.expect("the other program runs");
+    let line = String::from_utf8(output.stdout).expect("its line is text");
+    line.trim().parse().expect("its line is a number")
+}
+
+fn cell<T: ToString>(value: Option<T>) -> String {
+    value.map_or(String::new(), |value| value.to_string())
 }
 
 /// How the cost grows with the slots, and with the blocks.
@@ -67,19 +122,25 @@ fn columns(case: &Case) -> String {
 }
 
 fn medians(case: &Case) -> [u128; 2] {
-    let servers: [&dyn Server; 2] = [&Proved, &Second];
     let mut store = case.store.clone();
-    let mut runs: [Vec<u128>; 2] = [Vec::new(), Vec::new()];
+    let mut runs: [Vec<u128>; 2] = Default::default();
     for _ in 0..RUNS {
-        for (server, times) in servers.iter().zip(&mut runs) {
-            copy(&case.store, &mut store);
-            times.push(time(*server, case, &mut store));
+        for (server, times) in SERVERS.iter().zip(&mut runs) {
+            times.push(run(*server, case, &mut store));
         }
     }
-    runs.map(|mut times| {
-        times.sort_unstable();
-        times[RUNS / 2]
-    })
+    runs.map(|times| median(times).expect("some runs"))
+}
+
+fn median(mut times: Vec<u128>) -> Option<u128> {
+    times.sort_unstable();
+    times.get(times.len() / 2).copied()
+}
+
+/// Nanoseconds per call of one run, from the case's store on.
+fn run(server: &dyn Server, case: &Case, store: &mut Store) -> u128 {
+    copy(&case.store, store);
+    time(server, case, store)
 }
 
 fn copy(from: &Store, to: &mut Store) {
@@ -88,15 +149,25 @@ fn copy(from: &Store, to: &mut Store) {
     to.mem.copy_from_slice(&from.mem);
 }
 
-/// Nanoseconds per call of one run.
 fn time(server: &dyn Server, case: &Case, store: &mut Store) -> u128 {
     let geometry = &case.geometry;
     let mut reply = vec![0; REPLY_MIN];
+    let mut idle = Duration::ZERO;
     let start = Instant::now();
     match &case.work {
         Work::Serve(requests) => {
             for request in requests {
                 black_box(server.serve(geometry, store, &VERIFIER, request, &mut reply));
+            }
+        }
+        Work::Again { request, back } => {
+            for _ in 0..case.calls {
+                black_box(server.serve(geometry, store, &VERIFIER, request, &mut reply));
+                let done = Instant::now();
+                if let Some(back) = back {
+                    server.serve(geometry, store, &VERIFIER, back, &mut reply);
+                }
+                idle += done.elapsed();
             }
         }
         Work::Soundness => {
@@ -110,5 +181,5 @@ fn time(server: &dyn Server, case: &Case, store: &mut Store) -> u128 {
             }
         }
     }
-    start.elapsed().as_nanos() / case.calls as u128
+    (start.elapsed() - idle).as_nanos() / case.calls as u128
 }

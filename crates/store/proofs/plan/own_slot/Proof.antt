@@ -14,7 +14,7 @@ returns : tie.Need-returns
 returns c =
     let k = c .before in
     let s = k .before .before .before .before .before in
-    slot-kept _ _ (s .pre .0) (s .args .i) (sym (k .takes-block .ensures) ∙ not-true _ (c .if1 .taken))
+    slot-kept _ _ (s .pre .0) (s .args .i) (sym (k .takes-block .ensures) ∙ not-true _ (c .if1 .taken)) (s .pre .1 .1)
 
 returns-2 : tie.Need-returns-2
 returns-2 c =
@@ -40,8 +40,9 @@ returns-3 c =
     let t = f .before .before in
     let k = t .before in
     let s = k .before .before .before .before .before in
-    slot-taken _ _ (s .pre .0) (s .args .i) (sym (k .takes-block .ensures) ∙ not-false _ (t .if1 .left)) (rw (f .lowest-free .ensures) at (b .if2 .left)) _ _
-    (rw (w .taken-word .ensures, f .lowest-free .ensures) at (o .set-word .ensures))
+    rw (f .lowest-free .ensures)
+    (slot-taken _ _ (s .pre .0) (s .args .i) (sym (k .takes-block .ensures) ∙ not-false _ (t .if1 .left)) (rw (f .lowest-free .ensures) at (b .if2 .left)) (s .pre .1 .0) (o .set-word .kept .1 .0)
+    (rw (w .taken-word .ensures, f .lowest-free .ensures) at (o .set-word .ensures)))
 
 pub own-slot-spec : {M : Type 1} → statement M
 own-slot-spec =
@@ -49,4 +50,4 @@ own-slot-spec =
     (tie.spec
     (λ c. search needs) (λ c. search needs) takes-block-requires (λ c. search needs) returns
     (λ c κs. search needs) (λ c. search needs) returns-2
-    taken-word-requires (λ c κs. search needs) (λ c. search needs) (λ c. search needs) returns-3)
+    taken-word-requires (λ c κs. search needs) (λ c. search needs) (λ c. search needs) (λ c. search needs) returns-3)

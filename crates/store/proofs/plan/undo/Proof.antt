@@ -28,7 +28,7 @@ loop-holds : tie.Need-loop-holds Inv-loop μ-loop
 loop-holds c =
     let s = c .before .before .before in
     let e : s .args .i + 0 ≡ s .args .i = omega arith in
-    record { within = omega arith; words-long = refl; counts-long = refl; same = rw e; counted = s .pre .0 }
+    record { within = omega arith; words-long = refl; counts-long = refl; same = rw e; counted = s .pre .counted }
 
 add-set-word : tie.Need-add-set-word Inv-loop μ-loop
 add-set-word c = omega arith
@@ -40,7 +40,7 @@ set-word-requires : tie.Need-set-word-requires Inv-loop μ-loop
 set-word-requires c κs =
     let l = c .before .before .before .before in
     let s = l .before .before .before .before in
-    (l .loop .inv .counted, (omega arith, rw (l .loop .inv .counts-long) (s .pre .1 .1 (l .loop .k))))
+    (l .loop .inv .counted, (omega arith, rw (l .loop .inv .counts-long) (s .pre .pool (l .loop .k))))
 
 add-k : tie.Need-add-k Inv-loop μ-loop
 add-k c = omega arith
@@ -71,7 +71,7 @@ returns : tie.Need-returns Inv-loop μ-loop
 returns c =
     let l = c .before in
     let s = l .before .before .before .before in
-    record { words-are = undo-all _ _ _ _ _ (s .pre .1 .0) (c .loop-test .left) (l .loop .inv .same); counted = l .loop .inv .counted }
+    record { words-are = undo-all _ _ _ _ _ (s .pre .inside) (c .loop-test .left) (l .loop .inv .same); counted = l .loop .inv .counted }
 
 pub undo-spec : {M : Type 1} → statement M
 undo-spec =

@@ -6,7 +6,7 @@ use Rattle.store.proofs.planner.change_slot.Tie as tie
 share-slot-requires : tie.Need-share-slot-requires
 share-slot-requires c κs =
     let s = c .before .before .before .before .before .before .before in
-    (s .pre .0, (s .pre .1 .0, rw (c .before .before .before .kind .given .1) at (s .pre .1 .1)))
+    (s .pre .counted, (s .pre .slot, rw (c .before .before .before .kind .given .1) at (s .pre .source)))
 
 returns : tie.Need-returns
 returns c =
@@ -29,7 +29,9 @@ returns-4 c =
     rw (o .before .before .before .enum-told3 .given .1) (o .reserve-slot .ensures)
 
 returns-5 : tie.Need-returns-5
-returns-5 c = rw (c .enum-told4 .given .1) (changed-stays (c .before .before .before .before .pre .0))
+returns-5 c =
+    let s = c .before .before .before .before in
+    rw (c .enum-told4 .given .1) (changed-stays (s .pre .counted) (s .pre .low))
 
 pub change-slot-spec : {M : Type 1} → statement M
 change-slot-spec =

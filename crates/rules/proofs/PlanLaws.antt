@@ -12,7 +12,7 @@ use lib.ListN.{length, getD, set, length-set}
 use lib.Seq.{getD-set-other, set-getD}
 use lib.Dec.{ltb}
 use Rattle.rules.specs.Lists.{bit, countTo, each}
-use Rattle.rules.specs.Store.{word, isHole, isShared, holders, blockBound, used, owed, lowestFree}
+use Rattle.rules.specs.Store.{word, isHole, isShared, holeOrShared, holders, blockBound, used, owed, lowestFree}
 use Rattle.rules.specs.Edit.{owned}
 use Rattle.rules.proofs.EditSteps.{own, ownUnless, share}
 use Rattle.rules.proofs.CountLaws.{sumTo-point}
@@ -214,6 +214,12 @@ own-reserved at n k ws inside reserved = each-keeps (NoMore ws) (own at) n k ws 
       same = sameR-trans (p .same) (own-sameR at x j);
       need = le-trans (one x j (omega (arith, p .same .slots)) (p .same .r (at + j) ∙ reserved j l u)) (p .need);
     }
+
+-- ---- slots that hold their blocks alone keep their words
+
+pub own-alone : (at n k : ℕ) (ws : List ℕ) → ((j : ℕ) → k ≤ j → j < k + n → holeOrShared ws (getD ws (at + j) 0) ≡ false) → each (own at) ws k n ≡ ws
+unfolding own owned
+own-alone at n k ws alone = each-keeps (λ x. x ≡ ws) (own at) n k ws (λ x j l u e. rw (e, alone j l u) (set-getD ws (at + j) 0)) refl
 
 -- ---- the pool
 

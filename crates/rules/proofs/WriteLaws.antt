@@ -9,11 +9,11 @@ use native.Mathlib.Omega.{arith}
 use borrow.Author.Tests.{lt-ltb, le-ltb, le-leb, lt-leb}
 use lib.ListN.{length, length-set}
 use lib.Seq.{getD-set-same, getD-set-other}
-use Rattle.rules.specs.Store.{Geometry, Store, sizeOf, wordOf, used, owed, byteAt}
+use Rattle.rules.specs.Store.{Geometry, Store, sizeOf, wordOf, holeOrShared, used, owed, byteAt}
 use Rattle.rules.specs.Edit.{within, firstSlot, slotCount, edited, writing}
 use Rattle.rules.proofs.EditSteps.{own, planWrite, writeBytes}
 use Rattle.rules.proofs.EditForms.{write-is}
-use Rattle.rules.proofs.PlanLaws.{InPool, SameR, each-sameR, own-sameR, plan-pool, own-reserved}
+use Rattle.rules.proofs.PlanLaws.{InPool, SameR, each-sameR, own-sameR, plan-pool, own-reserved, own-alone}
 use Rattle.rules.proofs.SlotByteLaws.{view, own-local, Wrote, wrote}
 use Rattle.rules.proofs.SoundStore.{div-le, div-ge, div-lt, Sound, Edited, apart, in-file, other-words, slots-fit, plan-past, slot-in}
 use Rattle.rules.proofs.BoolLaws.{and-false}
@@ -144,6 +144,12 @@ module _ (g : Geometry) (pos : 0 < g .B) (st : Store) (snd : Sound g st) (f off 
       → used (planWrite g (st .words) f off end) + owed (planWrite g (st .words) f off end) ≤ g .N
   unfolding planWrite
   write-room reserved = le-trans (own-reserved (f * g .S) (slotCount g off end) (firstSlot g off) (st .words) in-table reserved .need) (snd .room)
+
+  -- a WRITE into slots that hold their blocks alone changes no slot word, and the need is what it was
+  pub write-alone : ((q : ℕ) → firstSlot g off ≤ q → q < firstSlot g off + slotCount g off end → holeOrShared (st .words) (wordOf g (st .words) f q) ≡ false)
+      → edited g st (writing f off end new) .words ≡ st .words
+  unfolding planWrite
+  write-alone alone = rw (write-is g st f off end new some) (own-alone (f * g .S) (slotCount g off end) (firstSlot g off) (st .words) alone)
 
   pub write-r : SameR (st .words) (edited g st (writing f off end new) .words)
   write-r = rw (write-is g st f off end new some) plan-r

@@ -1,6 +1,6 @@
 // Plans in place: slots get unshared blocks one by one, the plan is judged against the pool, and one that does not fit is undone.
 ghost use mathlib.Core.Path.{_≡_};
-ghost use Prim.Native.Nat.{suc, _+_, _%_, _<_, _≤_};
+ghost use Prim.Native.Nat.{suc, _%_, _≤_};
 ghost use lib.ListN.{length, getD};
 ghost use lib.Dec.{eqb};
 ghost use Rattle.xdr.specs.Bytes.{splice};
@@ -8,9 +8,8 @@ ghost use Rattle.rules.specs.Lists.{allTo};
 ghost use Rattle.rules.specs.Store.{word, fitsPool};
 ghost use Rattle.rules.specs.Edit.{owns};
 ghost use Rattle.tables.specs.Tables.{TableTrue};
-ghost use Rattle.tables.specs.Tally.{firstZero};
 ghost use Rattle.store.specs.Plan.{Planned, Undoable, Undone, Settleable};
-ghost use Rattle.store.specs.Planner.{SlotChanged};
+ghost use Rattle.store.specs.Planner.{Changeable, SlotChanged};
 use crate::edit::Search;
 use tables::lowest_free;
 use tables::owed_slots;
@@ -91,7 +90,7 @@ fn taken_word(b: usize, w: u32) -> u32
 
 // Gives slot i an unshared block: the one it has, or the lowest free one, which is not below `from`.
 pub fn own_slot(words: &mut [u32], counts: &mut [u32], i: usize, from: usize) -> Search
-    requires { ⌜ TableTrue (now words) (now counts) × ((i < length (now words)) × (from ≤ firstZero (now counts))) ⌝ }
+    requires { ⌜ Changeable (now words) (now counts) i owns from ⌝ }
     ensures { λ r. ⌜ SlotChanged owns (now (words .entry)) (now (counts .entry)) i r (now (words .exit)) (now (counts .exit)) ⌝ }
 {
     let w = words[i];

@@ -1,23 +1,24 @@
 -- Laws on the table of holders: how one pass fills it, and that what is read off it is what the rules count.
-use Prim.Native.Nat.{ℕ, zero, suc, pred, _+_, _-_, _/_, _≤_, _<_}
+use Prim.Native.Nat.{ℕ, zero, suc, pred, _+_, _-_, _/_, _%_, _≤_, _<_}
 use mathlib.Core.Path.{_≡_, refl, sym, ap, _∙_}
 use mathlib.Core.Bool.{Bool, true, false, _&&_, _||_, true≢false}
 use mathlib.Core.List.{List, [], _∷_}
 use mathlib.Core.Logic.{_≢_}
-use native.Mathlib.Nat.{le-of-suc-le-suc}
+use native.Mathlib.Nat.{le-refl, le-of-suc-le-suc}
 use native.Mathlib.Decide.{decLt}
 use native.Mathlib.Numerals.{add-one, sub-one}
 use native.Mathlib.Omega.{arith}
-use borrow.Author.Tests.{eq-eqb, ne-eqb, eqb-true, eqb-false, ltb-true}
+use borrow.Author.Tests.{eq-eqb, ne-eqb, eqb-true, eqb-false, leb-true, ltb-true}
 use lib.ListN.{length, getD, set, take, drop, length-drop}
 use lib.Seq.{getD-set-same, getD-set-other, getD-take, getD-drop, length-take-le}
-use lib.Dec.{ltb, eqb}
+use lib.Dec.{leb, ltb, eqb}
 use Rattle.rules.specs.Lists.{bit, count, sumTo, countTo, allTo}
 use Rattle.rules.specs.Store.{isHole, isReserved, isShared, holds, holders, blockBound, used, owes, owed, lowestFree}
 use Rattle.tables.specs.Tables.{Tallied}
-use Rattle.tables.specs.Tally.{noted, takesBy, owesBy, firstZero, HeldFrom}
+use Rattle.tables.specs.Tally.{noted, takesBy, owesBy, firstZero, groupHeld, HeldFrom}
 use Rattle.rules.proofs.CountLaws.{sumTo-ext, count-drop}
 use Rattle.rules.proofs.NeedLaws.{lowestFree-free, scan-ends, used-to}
+use Rattle.rules.proofs.BoolLaws.{and-left, and-right}
 use Rattle.rules.proofs.SoundLaws.{allTo-at}
 use Rattle.rules.proofs.PlanLaws.{InPool}
 
@@ -37,6 +38,10 @@ bit-most false = omega arith
 pub count-most : (p : ℕ → Bool) (l : List ℕ) → count p l ≤ length l
 count-most p [] = omega arith
 count-most p (x ∷ l) = omega (arith, bit-most (p x), count-most p l)
+
+allTo-ext : (n : ℕ) (p q : ℕ → Bool) → ((i : ℕ) → i < n → p i ≡ q i) → allTo n p ≡ allTo n q
+allTo-ext zero p q h = refl
+allTo-ext (suc n) p q h = rw (h n (le-refl (suc n)), allTo-ext n p q (λ i l. h i (omega arith)))
 
 -- equal at each element
 count-ext : (p q : ℕ → Bool) (l : List ℕ) → ((i : ℕ) → p (getD l i 0) ≡ q (getD l i 0)) → count p l ≡ count q l
@@ -140,17 +145,22 @@ module _ (l : List ℕ) (b : ℕ) (inside : b < length l) where
     free = λ q. absurd (omega arith);
   }
 
-  -- the n from b on, as the code takes them
-  pub held-group : (n : ℕ) → n ≢ 0 → b + n ≤ length l
-      → allTo (length (take (b + n - b) (drop b l))) (λ j. ltb 0 (getD (take (b + n - b) (drop b l)) j 0)) ≡ true → HeldFrom l b n
-  held-group n some room e =
-      let part : List ℕ = take (b + n - b) (drop b l) in
-      let long : length part ≡ b + n - b = length-take-le (b + n - b) (drop b l) (rw (length-drop b l) (omega arith)) in
+  pub held-group : groupHeld l b ≡ true → HeldFrom l b 16
+  held-group e =
+      let room : 16 ≤ length l - b = leb-true 16 (length l - b) (and-left _ _ (and-right (eqb (b % 16) 0) _ e)) in
       record {
-        inside = room;
-        held = λ j h. rw (getD-take (b + n - b) (drop b l) j 0 (omega arith), getD-drop b l j 0) at (ltb-true 0 (getD part j 0) (allTo-at (length part) _ e j (omega (arith, long))));
-        free = λ q. absurd (some q);
+        inside = omega arith;
+        held = λ j h. ltb-true 0 (getD l (b + j) 0) (allTo-at 16 (λ k. ltb 0 (getD l (b + k) 0)) (and-right (leb 16 (length l - b)) _ (and-right (eqb (b % 16) 0) _ e)) j h);
+        free = λ q. absurd (omega arith);
       }
+
+  -- each of the n from b on, as the code takes them
+  pub held-part : (n : ℕ) → b + n ≤ length l
+      → allTo (length (take (b + n - b) (drop b l))) (λ j. ltb 0 (getD (take (b + n - b) (drop b l)) j 0)) ≡ allTo n (λ j. ltb 0 (getD l (b + j) 0))
+  held-part n room =
+      let all : b + n - b ≡ n = omega arith in
+      let long : length (take n (drop b l)) ≡ n = length-take-le n (drop b l) (rw (length-drop b l) (omega arith)) in
+      rw (all, long) (allTo-ext n _ _ (λ j h. rw (getD-take n (drop b l) j 0 h, getD-drop b l j 0)))
 
 -- ---- read off the table
 

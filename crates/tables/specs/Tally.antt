@@ -1,10 +1,11 @@
 -- The table of holders, filled by one pass over the slot words, and what is read off it.
-use Prim.Native.Nat.{ℕ, zero, suc, pred, _+_, _-_, _/_, _≤_, _<_}
+use Prim.Native.Nat.{ℕ, zero, suc, pred, _+_, _-_, _/_, _%_, _≤_, _<_}
 use mathlib.Core.Path.{_≡_}
 use mathlib.Core.Bool.{Bool, _&&_, _||_}
 use mathlib.Core.List.{List, [], _∷_}
 use lib.ListN.{length, getD, set, replicate}
-use lib.Dec.{ltb}
+use lib.Dec.{leb, ltb, eqb}
+use Rattle.rules.specs.Lists.{allTo}
 use Rattle.rules.specs.Store.{isHole, isReserved}
 use Rattle.rules.proofs.PlanLaws.{InPool}
 
@@ -37,6 +38,10 @@ unfoldable pub firstZero : List ℕ → ℕ
 firstZero [] = 0
 firstZero (zero ∷ xs) = 0
 firstZero (suc x ∷ xs) = suc (firstZero xs)
+
+-- one of the groups of sixteen in which blocks are looked at starts at b, and each of its blocks has a holder
+abbrev pub groupHeld : List ℕ → ℕ → Bool
+groupHeld counts b = eqb (b % 16) 0 && (leb 16 (length counts - b) && allTo 16 (λ j. ltb 0 (getD counts (b + j) 0)))
 
 -- the n blocks from b on have a holder; none where block b has none
 pub record HeldFrom (counts : List ℕ) (b n : ℕ) : Type 0 where

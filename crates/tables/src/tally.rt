@@ -6,7 +6,7 @@ ghost use lib.ListN.{length, getD};
 ghost use lib.Dec.{leb, ltb};
 ghost use Rattle.rules.specs.Lists.{allTo, bit, count};
 ghost use Rattle.tables.specs.Tables.{Tallied};
-ghost use Rattle.tables.specs.Tally.{noted, Untallied, takesBy, owesBy, firstZero, HeldFrom};
+ghost use Rattle.tables.specs.Tally.{noted, Untallied, takesBy, owesBy, firstZero, groupHeld, HeldFrom};
 ghost use Rattle.rules.proofs.PlanLaws.{InPool};
 
 // Whether every word names one of the blocks, or none.
@@ -141,24 +141,32 @@ fn all_held(counts: &[u32]) -> bool
     held
 }
 
-// How many blocks from b on are seen to be held: none, block b, or the group that starts there.
+// Whether a group starts at b, and each of its blocks is held.
+fn group_held(counts: &[u32], b: usize) -> bool
+    requires { ⌜ b < length (now counts) ⌝ }
+    ensures { λ r. ⌜ r ≡ groupHeld (now (counts .entry)) b ⌝ }
+{
+    if b % Group::SIZE != 0 {
+        return false;
+    }
+    if counts.len() - b < Group::SIZE {
+        return false;
+    }
+    all_held(&counts[b..b + Group::SIZE])
+}
+
+// How many blocks from b on are seen to be held: the group that starts there, block b, or none.
 fn held_from(counts: &[u32], b: usize) -> usize
     requires { ⌜ b < length (now counts) ⌝ }
     ensures { λ r. ⌜ HeldFrom (now (counts .entry)) b r ⌝ }
 {
+    if group_held(counts, b) {
+        return Group::SIZE;
+    }
     if counts[b] == 0 {
         return 0;
     }
-    if b % Group::SIZE != 0 {
-        return 1;
-    }
-    if counts.len() - b < Group::SIZE {
-        return 1;
-    }
-    if !all_held(&counts[b..b + Group::SIZE]) {
-        return 1;
-    }
-    Group::SIZE
+    1
 }
 
 // The first block without a holder, which is not below `from`; their number where each has one. No block is looked at more than once

@@ -8,13 +8,13 @@ use Rattle.store.proofs.plan.own_slot.Tie as tie
 takes-block-requires : tie.Need-takes-block-requires
 takes-block-requires c κs =
     let s = c .before .before .before .before in
-    s .pre .0 .pool (s .args .i)
+    s .pre .counted .pool (s .args .i)
 
 returns : tie.Need-returns
 returns c =
     let k = c .before in
     let s = k .before .before .before .before .before in
-    slot-kept _ _ (s .pre .0) (s .args .i) (sym (k .takes-block .ensures) ∙ not-true _ (c .if1 .taken)) (s .pre .1 .1)
+    slot-kept _ _ (s .pre .counted) (s .args .i) (sym (k .takes-block .ensures) ∙ not-true _ (c .if1 .taken)) (s .pre .low)
 
 returns-2 : tie.Need-returns-2
 returns-2 c =
@@ -22,14 +22,14 @@ returns-2 c =
     let t = f .before .before in
     let k = t .before in
     let s = k .before .before .before .before .before in
-    slot-stopped _ _ (s .pre .0) (s .args .i) (sym (k .takes-block .ensures) ∙ not-false _ (t .if1 .left)) (rw (f .lowest-free .ensures) at (c .if2 .taken))
+    slot-stopped _ _ (s .pre .counted) (s .args .i) (sym (k .takes-block .ensures) ∙ not-false _ (t .if1 .left)) (rw (f .lowest-free .ensures) at (c .if2 .taken))
 
 taken-word-requires : tie.Need-taken-word-requires
 taken-word-requires c κs =
     let b = c .before .before in
     let f = b .before in
     let s = f .before .before .before .before .before .before .before .before in
-    rw (f .lowest-free .ensures) (free-low _ _ (s .pre .0) (rw (f .lowest-free .ensures) at (b .if2 .left)))
+    rw (f .lowest-free .ensures) (free-low _ _ (s .pre .counted) (rw (f .lowest-free .ensures) at (b .if2 .left)))
 
 returns-3 : tie.Need-returns-3
 returns-3 c =
@@ -41,7 +41,7 @@ returns-3 c =
     let k = t .before in
     let s = k .before .before .before .before .before in
     rw (f .lowest-free .ensures)
-    (slot-taken _ _ (s .pre .0) (s .args .i) (sym (k .takes-block .ensures) ∙ not-false _ (t .if1 .left)) (rw (f .lowest-free .ensures) at (b .if2 .left)) (s .pre .1 .0) (o .set-word .kept .1 .0)
+    (slot-taken _ _ (s .pre .counted) (s .args .i) (sym (k .takes-block .ensures) ∙ not-false _ (t .if1 .left)) (rw (f .lowest-free .ensures) at (b .if2 .left)) (s .pre .slot) (o .set-word .kept .1 .0)
     (rw (w .taken-word .ensures, f .lowest-free .ensures) at (o .set-word .ensures)))
 
 pub own-slot-spec : {M : Type 1} → statement M

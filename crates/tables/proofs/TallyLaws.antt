@@ -1,14 +1,14 @@
 -- Laws on the table of holders: how one pass fills it, and that what is read off it is what the rules count.
 use Prim.Native.Nat.{ℕ, zero, suc, pred, _+_, _-_, _/_, _%_, _≤_, _<_}
 use mathlib.Core.Path.{_≡_, refl, sym, ap, _∙_}
-use mathlib.Core.Bool.{Bool, true, false, _&&_, _||_, true≢false}
+use mathlib.Core.Bool.{Bool, true, false, _&&_, _||_, not, true≢false}
 use mathlib.Core.List.{List, [], _∷_}
 use mathlib.Core.Logic.{_≢_}
 use native.Mathlib.Nat.{le-refl, le-of-suc-le-suc}
 use native.Mathlib.Decide.{decLt}
 use native.Mathlib.Numerals.{add-one, sub-one}
 use native.Mathlib.Omega.{arith}
-use borrow.Author.Tests.{eq-eqb, ne-eqb, eqb-true, eqb-false, leb-true, ltb-true}
+use borrow.Author.Tests.{not-true, eq-eqb, ne-eqb, eqb-true, eqb-false, leb-true, ltb-true}
 use lib.ListN.{length, getD, set, take, drop, length-drop}
 use lib.Seq.{getD-set-same, getD-set-other, getD-take, getD-drop, length-take-le}
 use lib.Dec.{leb, ltb, eqb}
@@ -18,7 +18,7 @@ use Rattle.tables.specs.Tables.{Tallied}
 use Rattle.tables.specs.Tally.{noted, takesBy, owesBy, firstZero, groupHeld, HeldFrom}
 use Rattle.rules.proofs.CountLaws.{sumTo-ext, count-drop}
 use Rattle.rules.proofs.NeedLaws.{lowestFree-free, scan-ends, used-to}
-use Rattle.rules.proofs.BoolLaws.{and-left, and-right}
+use Rattle.rules.proofs.BoolLaws.{and-left, and-right, and-false}
 use Rattle.rules.proofs.SoundLaws.{allTo-at}
 use Rattle.rules.proofs.PlanLaws.{InPool}
 
@@ -47,6 +47,10 @@ allTo-ext (suc n) p q h = rw (h n (le-refl (suc n)), allTo-ext n p q (λ i l. h 
 count-ext : (p q : ℕ → Bool) (l : List ℕ) → ((i : ℕ) → p (getD l i 0) ≡ q (getD l i 0)) → count p l ≡ count q l
 count-ext p q [] h = refl
 count-ext p q (x ∷ l) h = omega (arith, ap bit (h 0), count-ext p q l (λ i. h (suc i)))
+
+count-none : (p : ℕ → Bool) (l : List ℕ) → ((i : ℕ) → i < length l → p (getD l i 0) ≡ false) → count p l ≡ 0
+count-none p [] h = refl
+count-none p (x ∷ l) h = omega (arith, ap bit (h 0 (omega arith)), count-none p l (λ i k. h (suc i) (omega arith)))
 
 sumTo-front : (n : ℕ) (f : ℕ → ℕ) → sumTo (suc n) f ≡ f 0 + sumTo n (λ b. f (suc b))
 sumTo-front zero f = refl
@@ -161,6 +165,11 @@ module _ (l : List ℕ) (b : ℕ) (inside : b < length l) where
       let all : b + n - b ≡ n = omega arith in
       let long : length (take n (drop b l)) ≡ n = length-take-le n (drop b l) (rw (length-drop b l) (omega arith)) in
       rw (all, long) (allTo-ext n _ _ (λ j h. rw (getD-take n (drop b l) j 0 h, getD-drop b l j 0)))
+
+-- ---- where no slot is reserved, none owes a block
+
+pub owed-none : (ws cs : List ℕ) → allTo (length ws) (λ i. not (isReserved (getD ws i 0))) ≡ true → count (owesBy cs) ws ≡ 0
+owed-none ws cs e = count-none (owesBy cs) ws (λ i h. rw (not-true (isReserved (getD ws i 0)) (allTo-at (length ws) _ e i h), and-false))
 
 -- ---- read off the table
 

@@ -1,10 +1,11 @@
 // One pass over the slot words counts the holders of each block. Used and owed blocks and the lowest free one are read off the counts.
 ghost use mathlib.Core.Path.{_≡_};
-ghost use mathlib.Core.Bool.{_&&_};
+ghost use mathlib.Core.Bool.{_&&_, not};
 ghost use Prim.Native.Nat.{ℕ, _/_, _<_, _≤_};
 ghost use lib.ListN.{length, getD};
 ghost use lib.Dec.{leb, ltb};
 ghost use Rattle.rules.specs.Lists.{allTo, bit, count};
+ghost use Rattle.rules.specs.Store.{isReserved};
 ghost use Rattle.tables.specs.Tables.{Tallied};
 ghost use Rattle.tables.specs.Tally.{noted, Untallied, takesBy, owesBy, firstZero, groupHeld, HeldFrom};
 ghost use Rattle.rules.proofs.PlanLaws.{InPool};
@@ -97,11 +98,37 @@ fn owes_block(w: u32, counts: &[u32]) -> usize
     0
 }
 
+// Whether those before are not reserved and a slot with word w is not.
+fn unreserved_too(unreserved: bool, w: u32) -> bool
+    ensures { λ r. ⌜ r ≡ (not (isReserved w) && unreserved) ⌝ }
+{
+    if w % 2 == 1 {
+        return false;
+    }
+    unreserved
+}
+
+// Whether no slot is reserved. There is no way out of the loop, so that many are looked at at a time.
+fn none_reserved(words: &[u32]) -> bool
+    ensures { λ r. ⌜ r ≡ allTo (length (now (words .entry))) (λ i. not (isReserved (getD (now (words .entry)) i 0))) ⌝ }
+{
+    let mut unreserved = true;
+    let mut i = 0;
+    while i < words.len() {
+        unreserved = unreserved_too(unreserved, words[i]);
+        i += 1;
+    }
+    unreserved
+}
+
 // How many slots owe a block.
 pub fn owed_slots(words: &[u32], counts: &[u32]) -> usize
     requires { ⌜ InPool (length (now counts)) (now words) ⌝ }
     ensures { λ r. ⌜ r ≡ count (owesBy (now (counts .entry))) (now (words .entry)) ⌝ }
 {
+    if none_reserved(words) {
+        return 0;
+    }
     let mut n: usize = 0;
     let mut i = 0;
     while i < words.len() {

@@ -10,7 +10,8 @@ use second::{Geometry, Store, REPLY_MIN};
 use crate::case::{self, Case, Kind, Work, VERIFIER};
 use crate::pick;
 
-const SERVERS: [&dyn Server; 2] = [&Proved, &Second];
+/// No other program.
+const ALONE: Option<fn() -> u128> = None;
 
 const RUNS: usize = 7;
 
@@ -32,40 +33,24 @@ pub fn tables() {
         };
         let small = small.iter().map(|geometry| (*geometry, MANY));
         for (geometry, calls) in small.chain([(case::LARGE, FEW), (case::LARGEST, FEW)]) {
-            let columns = columns(&Case::new(kind, geometry, calls));
+            let columns = columns(&Case::new(kind, geometry, calls), ALONE);
             println!("| {} | {} | {columns} |", kind.name(), four(&geometry));
         }
     }
     sweep();
 }
 
-/// The WRITEs of `pick`. `before` is this program, linked with another archive: its times stand beside those of this one.
+/// The WRITEs of `pick`. `before` is this program, linked with another archive: its times stand
+/// beside those of this one.
 pub fn picks(before: Option<&str>) {
     println!("Nanoseconds per call, median of {RUNS} runs, each call timed by itself.\n");
-    println!("| WRITE | Geometry | Before | Proved | Plain | Ratio before | Ratio |");
-    println!("|---|---|---|---|---|---|---|");
+    let [head, line] = before.map_or(["", ""], |_| [" Before | Ratio before |", "---|---|"]);
+    println!("| WRITE | Geometry | Proved | Plain | Ratio |{head}");
+    println!("|---|---|---|---|---|{line}");
     for (number, pick) in pick::ALL.iter().enumerate() {
-        let case = pick.case();
-        let mut times: [Vec<u128>; 3] = Default::default();
-        let mut store = case.store.clone();
-        for _ in 0..RUNS {
-            times[0].extend(before.map(|program| other(program, number)));
-            for (server, times) in SERVERS.iter().zip(&mut times[1..]) {
-                times.push(run(*server, &case, &mut store));
-            }
-        }
-        let [before, proved, plain] = times.map(|times| median(times));
-        let ratio = |time: Option<u128>| time.map(|time| time as f64 / plain.unwrap_or(1) as f64);
-        println!(
-            "| {} | {} | {} | {} | {} | {} | {} |",
-            pick.name,
-            four(&pick.geometry),
-            cell(before),
-            cell(proved),
-            cell(plain),
-            cell(ratio(before).map(|ratio| format!("{ratio:.2}"))),
-            cell(ratio(proved).map(|ratio| format!("{ratio:.2}"))),
-        );
+        let other = before.map(|program| move || other(program, number));
+        let columns = columns(&pick.case(), other);
+        println!("| {} | {} | {columns} |", pick.name, four(&pick.geometry));
     }
 }
 
@@ -86,10 +71,6 @@ fn other(program: &str, number: usize) -> u128 {
     line.trim().parse().expect("its line is a number")
 }
 
-fn cell<T: ToString>(value: Option<T>) -> String {
-    value.map_or(String::new(), |value| value.to_string())
-}
-
 /// How the cost grows with the slots, and with the blocks.
 fn sweep() {
     println!("\n| Geometry | WRITE, proved | Plain | Ratio | Soundness, proved | Plain | Ratio |");
@@ -98,8 +79,8 @@ fn sweep() {
     let by_slots = slots.map(|(files, slots)| case::geometry(files, slots, 65_536, 512));
     let by_blocks = [16, 256, 4096].map(|blocks| case::geometry(1, 16, blocks, 512));
     for geometry in by_blocks.into_iter().chain(by_slots) {
-        let [write, soundness] =
-            [Kind::Write, Kind::Soundness].map(|kind| columns(&Case::new(kind, geometry, 4 * FEW)));
+        let [write, soundness] = [Kind::Write, Kind::Soundness]
+            .map(|kind| columns(&Case::new(kind, geometry, 4 * FEW), ALONE));
         println!("| {} | {write} | {soundness} |", four(&geometry));
     }
 }
@@ -114,27 +95,27 @@ fn four(geometry: &Geometry) -> String {
     format!("F {files}, S {slots}, N {blocks}, B {block_size}")
 }
 
-/// The nanoseconds of both, and their ratio.
-fn columns(case: &Case) -> String {
-    let [proved, plain] = medians(case);
-    let ratio = proved as f64 / plain as f64;
-    format!("{proved} | {plain} | {ratio:.2}")
-}
-
-fn medians(case: &Case) -> [u128; 2] {
+/// The nanoseconds of both, and their ratio; and of another program, if there is one.
+fn columns(case: &Case, other: Option<impl Fn() -> u128>) -> String {
     let mut store = case.store.clone();
-    let mut runs: [Vec<u128>; 2] = Default::default();
+    let mut runs: [Vec<u128>; 3] = Default::default();
     for _ in 0..RUNS {
-        for (server, times) in SERVERS.iter().zip(&mut runs) {
-            times.push(run(*server, case, &mut store));
-        }
+        runs[0].push(run(&Proved, case, &mut store));
+        runs[1].push(run(&Second, case, &mut store));
+        runs[2].extend(other.as_ref().map(|other| other()));
     }
-    runs.map(|times| median(times).expect("some runs"))
+    let [proved, plain, other] = runs.map(median);
+    let [ratio, other_ratio] = [proved, other].map(|time| time as f64 / plain as f64);
+    match other {
+        0 => format!("{proved} | {plain} | {ratio:.2}"),
+        _ => format!("{proved} | {plain} | {ratio:.2} | {other} | {other_ratio:.2}"),
+    }
 }
 
-fn median(mut times: Vec<u128>) -> Option<u128> {
+/// 0 where there were no runs.
+fn median(mut times: Vec<u128>) -> u128 {
     times.sort_unstable();
-    times.get(times.len() / 2).copied()
+    times.get(times.len() / 2).copied().unwrap_or(0)
 }
 
 /// Nanoseconds per call of one run, from the case's store on.

@@ -8,11 +8,9 @@ use crate::case::{self, Case, Work, LARGE};
 /// Half of `LARGE`.
 const HALF: Geometry = case::geometry(64, 512, 32_768, 512);
 
-/// The bytes of a short and of a long WRITE.
+/// The bytes of a short and of a long WRITE, and the slots of a long one.
 const SHORT: usize = 100;
 const LONG: usize = 60_000;
-
-/// The slots of a long WRITE.
 const LONG_SLOTS: u64 = 118;
 
 /// The WRITEs of a compound of 12 operations: PUTFH is the other.
@@ -20,72 +18,41 @@ const MANY: u64 = 11;
 
 const CALLS: usize = 200;
 
-/// A store whose slots hold blocks in order, but for the last ones, which are holes of full files, and WRITEs into its last slots.
+/// Files of full size, whose slots hold blocks in order, but for the last ones, which are holes;
+/// and WRITEs up to the last slot.
 pub struct Pick {
     pub name: &'static str,
     pub geometry: Geometry,
-    /// Holes at the end.
     holes: u64,
-    /// How many WRITEs, one slot or more apart, and their bytes.
     writes: u64,
+    /// Of each WRITE.
     bytes: usize,
-    /// The slots from the first WRITE's to the last one's.
-    slots: u64,
 }
 
-const fn pick(name: &'static str, holes: u64, writes: u64, bytes: usize, slots: u64) -> Pick {
+const fn pick(name: &'static str, holes: u64, writes: u64, bytes: usize) -> Pick {
     Pick {
         name,
         geometry: LARGE,
         holes,
         writes,
         bytes,
-        slots,
     }
 }
+
+const LAST: Pick = pick("100 bytes take the last free block", 1, 1, SHORT);
 
 pub const ALL: [Pick; 8] = [
     Pick {
         geometry: HALF,
-        ..pick("100 bytes take the last free block", 1, 1, SHORT, 1)
+        ..LAST
     },
-    pick("100 bytes take the last free block", 1, 1, SHORT, 1),
-    pick(
-        "60,000 bytes take the last free block",
-        1,
-        1,
-        LONG,
-        LONG_SLOTS,
-    ),
-    pick(
-        "60,000 bytes take the last 118",
-        LONG_SLOTS,
-        1,
-        LONG,
-        LONG_SLOTS,
-    ),
-    pick(
-        "11 WRITEs of 100 bytes take 11 of a half-full pool",
-        32_768,
-        MANY,
-        SHORT,
-        MANY,
-    ),
-    pick("100 bytes over the slot's own block", 0, 1, SHORT, 1),
-    pick(
-        "60,000 bytes over the slots' own blocks",
-        0,
-        1,
-        LONG,
-        LONG_SLOTS,
-    ),
-    pick(
-        "11 WRITEs of 100 bytes over the slots' own blocks",
-        0,
-        MANY,
-        SHORT,
-        MANY,
-    ),
+    LAST,
+    pick("60,000 bytes take the last free block", 1, 1, LONG),
+    pick("60,000 bytes take the last 118", LONG_SLOTS, 1, LONG),
+    pick("11 times 100 bytes take 11, half full", 32_768, MANY, SHORT),
+    pick("100 bytes over their own block", 0, 1, SHORT),
+    pick("60,000 bytes over their own blocks", 0, 1, LONG),
+    pick("11 times 100 bytes over their own blocks", 0, MANY, SHORT),
 ];
 
 impl Pick {
@@ -109,28 +76,33 @@ impl Pick {
         store
     }
 
+    /// The slots of a WRITE.
+    fn slots(&self) -> u64 {
+        (self.bytes as u64).div_ceil(self.geometry.block_size)
+    }
+
     fn last_file(&self) -> Vec<u8> {
         wire::putfh_file(self.geometry.files as usize - 1)
     }
 
-    /// The place of slot `slot` of those that are written.
-    fn place(&self, slot: u64) -> u64 {
-        (self.geometry.slots - self.slots + slot) * self.geometry.block_size
+    /// So many slots before a file's last byte.
+    fn before_end(&self, slots: u64) -> u64 {
+        (self.geometry.slots - slots) * self.geometry.block_size
     }
 
     fn request(&self) -> Vec<u8> {
         let data = vec![2; self.bytes];
-        let writes = (0..self.writes).map(|slot| wire::write(ZEROS, self.place(slot), 2, &data));
+        let write = |left| wire::write(ZEROS, self.before_end(left * self.slots()), 2, &data);
+        let writes = (1..=self.writes).rev().map(write);
         let operations: Vec<_> = [self.last_file()].into_iter().chain(writes).collect();
         wire::request(&operations)
     }
 
     /// The written slots that were holes are holes again.
     fn back(&self) -> Vec<u8> {
-        let taken = self.slots.min(self.holes);
-        let offset = self.place(self.slots - taken);
+        let taken = self.holes.min(self.writes * self.slots());
         let length = taken * self.geometry.block_size;
-        let free = wire::region(wire::DEALLOCATE, ZEROS, offset, length);
+        let free = wire::region(wire::DEALLOCATE, ZEROS, self.before_end(taken), length);
         wire::request(&[self.last_file(), free])
     }
 }

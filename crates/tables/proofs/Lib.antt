@@ -1,5 +1,6 @@
 pub mod CallLaws
 pub mod SlotLaws
+pub mod GroupLaws
 pub mod TallyLaws
 pub mod WordLaws
 pub mod FileTests

@@ -1,26 +1,28 @@
 -- Laws on the table of holders: how one pass fills it, and that what is read off it is what the rules count.
-use Prim.Native.Nat.{ℕ, zero, suc, pred, _+_, _-_, _/_, _%_, _≤_, _<_}
+use Prim.Native.Nat.{ℕ, zero, suc, _+_, _-_, _/_, _≤_, _<_}
 use mathlib.Core.Path.{_≡_, refl, sym, ap, _∙_}
 use mathlib.Core.Bool.{Bool, true, false, _&&_, _||_, not, true≢false}
 use mathlib.Core.List.{List, [], _∷_}
 use mathlib.Core.Logic.{_≢_}
-use native.Mathlib.Nat.{le-refl, le-of-suc-le-suc}
+use native.Mathlib.Nat.{le-of-suc-le-suc, add-zero}
 use native.Mathlib.Decide.{decLt}
 use native.Mathlib.Numerals.{add-one, sub-one}
 use native.Mathlib.Omega.{arith}
-use borrow.Author.Tests.{not-true, eq-eqb, ne-eqb, eqb-true, eqb-false, leb-true, ltb-true}
-use lib.ListN.{length, getD, set, take, drop, length-drop}
-use lib.Seq.{getD-set-same, getD-set-other, getD-take, getD-drop, length-take-le}
-use lib.Dec.{leb, ltb, eqb}
+use borrow.Author.Tests.{not-true, eq-eqb, ne-eqb, eqb-true, eqb-false, ltb-true}
+use lib.ListN.{length, getD, set, drop}
+use lib.Seq.{getD-set-same, getD-set-other}
+use lib.Dec.{ltb, eqb}
 use Rattle.rules.specs.Lists.{bit, count, sumTo, countTo, allTo}
 use Rattle.rules.specs.Store.{isHole, isReserved, isShared, holds, holders, blockBound, used, owes, owed, lowestFree}
 use Rattle.tables.specs.Tables.{Tallied}
-use Rattle.tables.specs.Tally.{noted, takesBy, owesBy, firstZero, groupHeld, HeldFrom}
+use Rattle.tables.specs.Tally.{noted, takesBy, owesBy, OwedFrom, firstZero, HeldFrom}
+use Rattle.tables.specs.Groups.{groupAll}
 use Rattle.rules.proofs.CountLaws.{sumTo-ext, count-drop}
 use Rattle.rules.proofs.NeedLaws.{lowestFree-free, scan-ends, used-to}
-use Rattle.rules.proofs.BoolLaws.{and-left, and-right, and-false}
+use Rattle.rules.proofs.BoolLaws.{and-false}
 use Rattle.rules.proofs.SoundLaws.{allTo-at}
 use Rattle.rules.proofs.PlanLaws.{InPool}
+use Rattle.tables.proofs.GroupLaws.{group-inside, group-each}
 
 -- ---- tests and counts
 
@@ -39,18 +41,10 @@ pub count-most : (p : ℕ → Bool) (l : List ℕ) → count p l ≤ length l
 count-most p [] = omega arith
 count-most p (x ∷ l) = omega (arith, bit-most (p x), count-most p l)
 
-allTo-ext : (n : ℕ) (p q : ℕ → Bool) → ((i : ℕ) → i < n → p i ≡ q i) → allTo n p ≡ allTo n q
-allTo-ext zero p q h = refl
-allTo-ext (suc n) p q h = rw (h n (le-refl (suc n)), allTo-ext n p q (λ i l. h i (omega arith)))
-
 -- equal at each element
 count-ext : (p q : ℕ → Bool) (l : List ℕ) → ((i : ℕ) → p (getD l i 0) ≡ q (getD l i 0)) → count p l ≡ count q l
 count-ext p q [] h = refl
 count-ext p q (x ∷ l) h = omega (arith, ap bit (h 0), count-ext p q l (λ i. h (suc i)))
-
-count-none : (p : ℕ → Bool) (l : List ℕ) → ((i : ℕ) → i < length l → p (getD l i 0) ≡ false) → count p l ≡ 0
-count-none p [] h = refl
-count-none p (x ∷ l) h = omega (arith, ap bit (h 0 (omega arith)), count-none p l (λ i k. h (suc i) (omega arith)))
 
 sumTo-front : (n : ℕ) (f : ℕ → ℕ) → sumTo (suc n) f ≡ f 0 + sumTo n (λ b. f (suc b))
 sumTo-front zero f = refl
@@ -149,27 +143,44 @@ module _ (l : List ℕ) (b : ℕ) (inside : b < length l) where
     free = λ q. absurd (omega arith);
   }
 
-  pub held-group : groupHeld l b ≡ true → HeldFrom l b 16
-  held-group e =
-      let room : 16 ≤ length l - b = leb-true 16 (length l - b) (and-left _ _ (and-right (eqb (b % 16) 0) _ e)) in
+  pub held-group : groupAll (ltb 0) l b ≡ true → HeldFrom l b 16
+  held-group e = record {
+    inside = group-inside (ltb 0) l b e;
+    held = λ j h. ltb-true 0 (getD l (b + j) 0) (group-each (ltb 0) l b e j h);
+    free = λ q. absurd (omega arith);
+  }
+
+-- ---- how many are seen to owe a block
+
+-- n numbers of which p does not hold
+count-skip : (p : ℕ → Bool) (l : List ℕ) (n i : ℕ) → i + n ≤ length l → ((j : ℕ) → j < n → p (getD l (i + j) 0) ≡ false) → count p (drop (i + n) l) ≡ count p (drop i l)
+count-skip p l zero i room h = ap (λ k. count p (drop k l)) (add-zero i)
+count-skip p l (suc n) i room h =
+    let here : p (getD l i 0) ≡ false = rw (add-zero i) at (h 0 (omega arith)) in
+    let next : i + suc n ≡ suc i + n = omega arith in
+    rw next (omega (
+      arith,
+      count-skip p l n (suc i) (omega arith) (λ j k. let e : suc i + j ≡ i + suc j = omega arith in rw e (h (suc j) (omega arith))),
+      count-drop p l i (omega arith),
+      ap bit here,
+    ))
+
+module _ (ws cs : List ℕ) (i : ℕ) where
+  pub owed-group : groupAll (λ w. not (isReserved w)) ws i ≡ true → OwedFrom ws cs i 16 0
+  owed-group e =
+      let room : i + 16 ≤ length ws = group-inside (λ w. not (isReserved w)) ws i e in
       record {
-        inside = omega arith;
-        held = λ j h. ltb-true 0 (getD l (b + j) 0) (allTo-at 16 (λ k. ltb 0 (getD l (b + k) 0)) (and-right (leb 16 (length l - b)) _ (and-right (eqb (b % 16) 0) _ e)) j h);
-        free = λ q. absurd (omega arith);
+        some = omega arith;
+        inside = room;
+        rest = omega (
+          arith,
+          count-skip (owesBy cs) ws 16 i room
+              (λ j h. rw (not-true (isReserved (getD ws (i + j) 0)) (group-each (λ w. not (isReserved w)) ws i e j h), and-false)),
+        );
       }
 
-  -- each of the n from b on, as the code takes them
-  pub held-part : (n : ℕ) → b + n ≤ length l
-      → allTo (length (take (b + n - b) (drop b l))) (λ j. ltb 0 (getD (take (b + n - b) (drop b l)) j 0)) ≡ allTo n (λ j. ltb 0 (getD l (b + j) 0))
-  held-part n room =
-      let all : b + n - b ≡ n = omega arith in
-      let long : length (take n (drop b l)) ≡ n = length-take-le n (drop b l) (rw (length-drop b l) (omega arith)) in
-      rw (all, long) (allTo-ext n _ _ (λ j h. rw (getD-take n (drop b l) j 0 h, getD-drop b l j 0)))
-
--- ---- where no slot is reserved, none owes a block
-
-pub owed-none : (ws cs : List ℕ) → allTo (length ws) (λ i. not (isReserved (getD ws i 0))) ≡ true → count (owesBy cs) ws ≡ 0
-owed-none ws cs e = count-none (owesBy cs) ws (λ i h. rw (not-true (isReserved (getD ws i 0)) (allTo-at (length ws) _ e i h), and-false))
+  pub owed-one : i < length ws → OwedFrom ws cs i 1 (bit (owesBy cs (getD ws i 0)))
+  owed-one h = record { some = omega arith; inside = omega arith; rest = rw (add-one i) (sym (count-drop (owesBy cs) ws i h)) }
 
 -- ---- read off the table
 

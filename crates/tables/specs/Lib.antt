@@ -1,5 +1,6 @@
 pub mod Lent
 pub mod Tables
+pub mod Groups
 pub mod Tally
 pub mod Survey
 pub mod View

@@ -1,11 +1,11 @@
 -- The table of holders, filled by one pass over the slot words, and what is read off it.
-use Prim.Native.Nat.{ℕ, zero, suc, pred, _+_, _-_, _/_, _%_, _≤_, _<_}
+use Prim.Native.Nat.{ℕ, zero, suc, pred, _+_, _-_, _/_, _≤_, _<_}
 use mathlib.Core.Path.{_≡_}
 use mathlib.Core.Bool.{Bool, _&&_, _||_}
 use mathlib.Core.List.{List, [], _∷_}
-use lib.ListN.{length, getD, set, replicate}
-use lib.Dec.{leb, ltb, eqb}
-use Rattle.rules.specs.Lists.{allTo}
+use lib.ListN.{length, getD, set, drop, replicate}
+use lib.Dec.{ltb}
+use Rattle.rules.specs.Lists.{count}
 use Rattle.rules.specs.Store.{isHole, isReserved}
 use Rattle.rules.proofs.PlanLaws.{InPool}
 
@@ -33,15 +33,17 @@ takesBy counts w = isHole w || ltb 1 (getD counts (pred (w / 2)) 0)
 abbrev pub owesBy : List ℕ → ℕ → Bool
 owesBy counts w = takesBy counts w && isReserved w
 
+-- of the n slots from i on, at least one, `owed` owe a block
+pub record OwedFrom (ws counts : List ℕ) (i n owed : ℕ) : Type 0 where
+  pub some : 0 < n
+  pub inside : i + n ≤ length ws
+  pub rest : owed + count (owesBy counts) (drop (i + n) ws) ≡ count (owesBy counts) (drop i ws)
+
 -- the index of the first 0, or the length
 unfoldable pub firstZero : List ℕ → ℕ
 firstZero [] = 0
 firstZero (zero ∷ xs) = 0
 firstZero (suc x ∷ xs) = suc (firstZero xs)
-
--- one of the groups of sixteen in which blocks are looked at starts at b, and each of its blocks has a holder
-abbrev pub groupHeld : List ℕ → ℕ → Bool
-groupHeld counts b = eqb (b % 16) 0 && (leb 16 (length counts - b) && allTo 16 (λ j. ltb 0 (getD counts (b + j) 0)))
 
 -- the n blocks from b on have a holder; none where block b has none
 pub record HeldFrom (counts : List ℕ) (b n : ℕ) : Type 0 where

@@ -1,6 +1,7 @@
 // The store's tables: geometry, slot words and the table of holders; soundness, counts, an empty store, and one slot shown.
 mod files;
 mod geometry;
+mod groups;
 mod make;
 mod survey;
 mod tally;

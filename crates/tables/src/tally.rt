@@ -1,14 +1,15 @@
 // One pass over the slot words counts the holders of each block. Used and owed blocks and the lowest free one are read off the counts.
 ghost use mathlib.Core.Path.{_≡_};
-ghost use mathlib.Core.Bool.{_&&_, not};
 ghost use Prim.Native.Nat.{ℕ, _/_, _<_, _≤_};
 ghost use lib.ListN.{length, getD};
 ghost use lib.Dec.{leb, ltb};
 ghost use Rattle.rules.specs.Lists.{allTo, bit, count};
-ghost use Rattle.rules.specs.Store.{isReserved};
 ghost use Rattle.tables.specs.Tables.{Tallied};
-ghost use Rattle.tables.specs.Tally.{noted, Untallied, takesBy, owesBy, firstZero, groupHeld, HeldFrom};
+ghost use Rattle.tables.specs.Tally.{noted, Untallied, takesBy, owesBy, OwedFrom, firstZero, HeldFrom};
 ghost use Rattle.rules.proofs.PlanLaws.{InPool};
+use crate::groups::Group;
+use crate::groups::group_held;
+use crate::groups::group_unreserved;
 
 // Whether every word names one of the blocks, or none.
 pub fn words_formed(words: &[u32], blocks: usize) -> bool
@@ -98,27 +99,27 @@ fn owes_block(w: u32, counts: &[u32]) -> usize
     0
 }
 
-// Whether those before are not reserved and a slot with word w is not.
-fn unreserved_too(unreserved: bool, w: u32) -> bool
-    ensures { λ r. ⌜ r ≡ (not (isReserved w) && unreserved) ⌝ }
-{
-    if w % 2 == 1 {
-        return false;
-    }
-    unreserved
+// Slots that were looked at, and how many of them owe a block.
+struct Owed {
+    slots: usize,
+    owed: usize,
 }
 
-// Whether no slot is reserved. There is no way out of the loop, so that many are looked at at a time.
-fn none_reserved(words: &[u32]) -> bool
-    ensures { λ r. ⌜ r ≡ allTo (length (now (words .entry))) (λ i. not (isReserved (getD (now (words .entry)) i 0))) ⌝ }
+// From slot i on: the group that starts there where it owes nothing, else the slot.
+fn owed_from(words: &[u32], counts: &[u32], i: usize) -> Owed
+    requires { ⌜ InPool (length (now counts)) (now words) × (i < length (now words)) ⌝ }
+    ensures { λ r. ⌜ OwedFrom (now (words .entry)) (now (counts .entry)) i (r .slots) (r .owed) ⌝ }
 {
-    let mut unreserved = true;
-    let mut i = 0;
-    while i < words.len() {
-        unreserved = unreserved_too(unreserved, words[i]);
-        i += 1;
+    if group_unreserved(words, i) {
+        return Owed {
+            slots: Group::SIZE,
+            owed: 0,
+        };
     }
-    unreserved
+    Owed {
+        slots: 1,
+        owed: owes_block(words[i], counts),
+    }
 }
 
 // How many slots owe a block.
@@ -126,60 +127,14 @@ pub fn owed_slots(words: &[u32], counts: &[u32]) -> usize
     requires { ⌜ InPool (length (now counts)) (now words) ⌝ }
     ensures { λ r. ⌜ r ≡ count (owesBy (now (counts .entry))) (now (words .entry)) ⌝ }
 {
-    if none_reserved(words) {
-        return 0;
-    }
     let mut n: usize = 0;
     let mut i = 0;
     while i < words.len() {
-        n += owes_block(words[i], counts);
-        i += 1;
+        let o = owed_from(words, counts, i);
+        n += o.owed;
+        i += o.slots;
     }
     n
-}
-
-// Blocks are looked at in groups.
-struct Group {}
-
-impl Group {
-    const SIZE: usize = 16;
-}
-
-// Whether those before are held and a block with n holders is.
-fn held_too(held: bool, n: u32) -> bool
-    ensures { λ r. ⌜ r ≡ (ltb 0 n && held) ⌝ }
-{
-    if n == 0 {
-        return false;
-    }
-    held
-}
-
-// Whether each of these blocks is held. There is no way out of the loop, so that many are looked at at a time.
-fn all_held(counts: &[u32]) -> bool
-    ensures { λ r. ⌜ r ≡ allTo (length (now (counts .entry))) (λ b. ltb 0 (getD (now (counts .entry)) b 0)) ⌝ }
-{
-    let mut held = true;
-    let mut b = 0;
-    while b < counts.len() {
-        held = held_too(held, counts[b]);
-        b += 1;
-    }
-    held
-}
-
-// Whether a group starts at b, and each of its blocks is held.
-fn group_held(counts: &[u32], b: usize) -> bool
-    requires { ⌜ b < length (now counts) ⌝ }
-    ensures { λ r. ⌜ r ≡ groupHeld (now (counts .entry)) b ⌝ }
-{
-    if b % Group::SIZE != 0 {
-        return false;
-    }
-    if counts.len() - b < Group::SIZE {
-        return false;
-    }
-    all_held(&counts[b..b + Group::SIZE])
 }
 
 // How many blocks from b on are seen to be held: the group that starts there, block b, or none.

@@ -1,7 +1,7 @@
 use native.Mathlib.Omega.{arith}
 use borrow.Author.Tests.{lt-ltb, le-ltb}
-use Rattle.tables.proofs.tally.held_too.Statement.{statement}
-use Rattle.tables.proofs.tally.held_too.Tie as tie
+use Rattle.tables.proofs.groups.held_too.Statement.{statement}
+use Rattle.tables.proofs.groups.held_too.Tie as tie
 
 returns : tie.Need-returns
 returns c = rw (le-ltb 0 (c .before .args .n) (omega arith))

@@ -6,8 +6,8 @@ use lib.ListN.{length, getD}
 use lib.Dec.{ltb}
 use borrow.Author.Needs.{needs}
 use Rattle.rules.specs.Lists.{allTo}
-use Rattle.tables.proofs.tally.all_held.Statement.{statement}
-use Rattle.tables.proofs.tally.all_held.Tie as tie
+use Rattle.tables.proofs.groups.all_held.Statement.{statement}
+use Rattle.tables.proofs.groups.all_held.Tie as tie
 
 abbrev Inv-loop : tie.InvT-loop
 Inv-loop counts held₀ b₀ held b = (b ≤ length counts) × (held ≡ allTo b (λ j. ltb 0 (getD counts j 0)))

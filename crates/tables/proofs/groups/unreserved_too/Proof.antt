@@ -1,6 +1,6 @@
 use borrow.Author.Tests.{eq-eqb, ne-eqb}
-use Rattle.tables.proofs.tally.unreserved_too.Statement.{statement}
-use Rattle.tables.proofs.tally.unreserved_too.Tie as tie
+use Rattle.tables.proofs.groups.unreserved_too.Statement.{statement}
+use Rattle.tables.proofs.groups.unreserved_too.Tie as tie
 
 returns : tie.Need-returns
 returns c = rw (eq-eqb _ 1 (c .if1 .taken))

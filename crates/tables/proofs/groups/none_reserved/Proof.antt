@@ -7,8 +7,8 @@ use lib.ListN.{length, getD}
 use borrow.Author.Needs.{needs}
 use Rattle.rules.specs.Lists.{allTo}
 use Rattle.rules.specs.Store.{isReserved}
-use Rattle.tables.proofs.tally.none_reserved.Statement.{statement}
-use Rattle.tables.proofs.tally.none_reserved.Tie as tie
+use Rattle.tables.proofs.groups.none_reserved.Statement.{statement}
+use Rattle.tables.proofs.groups.none_reserved.Tie as tie
 
 abbrev Inv-loop : tie.InvT-loop
 Inv-loop words unreserved₀ i₀ unreserved i = (i ≤ length words) × (unreserved ≡ allTo i (λ j. not (isReserved (getD words j 0))))

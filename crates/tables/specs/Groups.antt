@@ -1,0 +1,15 @@
+-- Groups of sixteen, in which tables are looked at.
+use Prim.Native.Nat.{ℕ, _+_, _-_, _%_}
+use mathlib.Core.Bool.{Bool, _&&_}
+use mathlib.Core.List.{List}
+use lib.ListN.{length, getD}
+use lib.Dec.{leb, eqb}
+use Rattle.rules.specs.Lists.{allTo}
+
+-- a whole group of n numbers starts at i
+abbrev pub groupAt : ℕ → ℕ → Bool
+groupAt i n = eqb (i % 16) 0 && leb 16 (n - i)
+
+-- and p holds of each of its numbers
+abbrev pub groupAll : (ℕ → Bool) → List ℕ → ℕ → Bool
+groupAll p l i = groupAt i (length l) && allTo 16 (λ j. p (getD l (i + j) 0))

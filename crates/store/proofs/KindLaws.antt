@@ -21,7 +21,7 @@ use Rattle.tables.specs.Tally.{firstZero}
 use Rattle.store.specs.declared.edit.Source.{Source}
 use Rattle.store.specs.declared.edit.Act as Code
 use Rattle.store.specs.declared.edit.Edit as CodeEdit
-use Rattle.store.specs.declared.edit.Search as Search
+use Rattle.store.specs.declared.edit.Search.{Search}
 use Rattle.store.specs.Edits.{editFrom, ActKnown, Applies}
 use Rattle.store.specs.Planner.{SourceSlots, EditSlots, Plannable, SlotOf, SharesIn, KindIs, indexOf, NoBlock, SlotChanged, inPass}
 
@@ -127,25 +127,25 @@ module _ {g : Geometry} {e : CodeEdit.Edit} {size k w : ℕ} where
 -- ---- a slot changed
 
 module _ {ws cs : List ℕ} {i : ℕ} where
-  changed-done : {c : Kind} {b : ℕ} {after cs′ : List ℕ} → after ≡ become c ws i → TableTrue after cs′ → b ≤ firstZero cs′
-      → SlotChanged c ws cs i (Search.Search.From b) after cs′
+  pub changed-done : {c : Kind} {b : ℕ} {after cs′ : List ℕ} → after ≡ become c ws i → TableTrue after cs′ → b ≤ firstZero cs′
+      → SlotChanged c ws cs i (Search.From b) after cs′
   changed-done e k l = record { words-are = e; counted = k; searched = l; stopped = λ d. absurd (true≢false d) }
 
-  pub changed-stays : {from : ℕ} → TableTrue ws cs → from ≤ firstZero cs → SlotChanged stays ws cs i (Search.Search.From from) ws cs
+  pub changed-stays : {from : ℕ} → TableTrue ws cs → from ≤ firstZero cs → SlotChanged stays ws cs i (Search.From from) ws cs
   unfolding become
   changed-stays k low = changed-done refl k low
 
   -- a stored word may free a block, and the search begins at 0
   module _ {after cs′ : List ℕ} where
-    pub changed-given : Stored ws i 0 after cs′ → SlotChanged given ws cs i (Search.Search.From 0) after cs′
+    pub changed-given : Stored ws i 0 after cs′ → SlotChanged given ws cs i (Search.From 0) after cs′
     unfolding become
     changed-given s = changed-done (s .words-are) (s .counted) (omega arith)
 
-    pub changed-shares : {p : ℕ} → Stored ws i (word (getD ws p 0 / 2) (getD ws i 0 % 2)) after cs′ → SlotChanged (shares p) ws cs i (Search.Search.From 0) after cs′
+    pub changed-shares : {p : ℕ} → Stored ws i (word (getD ws p 0 / 2) (getD ws i 0 % 2)) after cs′ → SlotChanged (shares p) ws cs i (Search.From 0) after cs′
     unfolding become
     changed-shares s = changed-done (s .words-are) (s .counted) (omega arith)
 
-    pub changed-reserved : Stored ws i (word (getD ws i 0 / 2) 1) after cs′ → SlotChanged reserved ws cs i (Search.Search.From 0) after cs′
+    pub changed-reserved : Stored ws i (word (getD ws i 0 / 2) 1) after cs′ → SlotChanged reserved ws cs i (Search.From 0) after cs′
     unfolding become
     changed-reserved s = changed-done (s .words-are) (s .counted) (omega arith)
 

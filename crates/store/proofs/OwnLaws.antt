@@ -1,7 +1,7 @@
 -- Laws on unshared blocks in place: one slot, and old words stored again.
 use Prim.Native.Nat.{ℕ, zero, suc, _+_, _/_, _%_, _≤_, _<_, max}
 use mathlib.Core.Path.{_≡_, refl, sym, ap, _∙_}
-use mathlib.Core.Bool.{Bool, true, false, true≢false}
+use mathlib.Core.Bool.{Bool, true, false}
 use mathlib.Core.List.{List, _∷_, append-assoc, []}
 use native.Mathlib.Nat.{add-suc}
 use native.Mathlib.Numerals.{add-one}
@@ -20,8 +20,9 @@ use Rattle.rules.proofs.NeedLaws.{lowestFree-least}
 use Rattle.rules.proofs.PlanLaws.{one-holder}
 use Rattle.tables.specs.Tally.{takesBy, firstZero}
 use Rattle.tables.specs.Tables.{TableTrue, Stored}
-use Rattle.store.specs.declared.edit.Search as Search
+use Rattle.store.specs.declared.edit.Search.{Search}
 use Rattle.store.specs.Planner.{SlotChanged}
+use Rattle.store.proofs.KindLaws.{changed-done}
 use Rattle.tables.proofs.TallyLaws.{first-below, first-from, takes-same, tallied-free, tallied-full}
 
 -- ---- the lowest free block's number is at most the number of slots
@@ -63,11 +64,6 @@ still-held ws i x c inside h two = go (eqb (getD ws i 0 / 2) (suc c)) refl
     go true e = omega (arith, count-set (holds c) ws i x inside, ap bit e, two (eqb-true (getD ws i 0 / 2) (suc c) e))
     go false e = omega (arith, count-set (holds c) ws i x inside, ap bit e)
 
-slot-done : {ws cs after cs′ : List ℕ} {i b : ℕ} → after ≡ set ws i (owned ws (getD ws i 0)) → TableTrue after cs′ → b ≤ firstZero cs′
-    → SlotChanged owns ws cs i (Search.Search.From b) after cs′
-unfolding become
-slot-done e k l = record { words-are = e; counted = k; searched = l; stopped = λ d. absurd (true≢false d) }
-
 module _ (ws cs : List ℕ) (known : TableTrue ws cs) where
   -- a free block of the table is low enough for a word
   pub free-low : firstZero cs < length cs → firstZero cs ≤ 65536
@@ -77,12 +73,12 @@ module _ (ws cs : List ℕ) (known : TableTrue ws cs) where
     takes-is : takesBy cs (getD ws i 0) ≡ holeOrShared ws (getD ws i 0)
     takes-is = takes-same ws cs (known .table) (known .pool) (getD ws i 0) (known .pool i)
 
-    pub slot-kept : takesBy cs (getD ws i 0) ≡ false → {from : ℕ} → from ≤ firstZero cs → SlotChanged owns ws cs i (Search.Search.From from) ws cs
-    unfolding owned
-    slot-kept e low = slot-done (rw (sym takes-is ∙ e) (sym (set-getD ws i 0))) known low
+    pub slot-kept : takesBy cs (getD ws i 0) ≡ false → {from : ℕ} → from ≤ firstZero cs → SlotChanged owns ws cs i (Search.From from) ws cs
+    unfolding owned become
+    slot-kept e low = changed-done (rw (sym takes-is ∙ e) (sym (set-getD ws i 0))) known low
 
     module _ (e : takesBy cs (getD ws i 0) ≡ true) where
-      pub slot-stopped : length cs ≤ firstZero cs → SlotChanged owns ws cs i Search.Search.Full ws cs
+      pub slot-stopped : length cs ≤ firstZero cs → SlotChanged owns ws cs i Search.Full ws cs
       slot-stopped h = record {
         words-are = refl;
         counted = known;
@@ -116,10 +112,10 @@ module _ (ws cs : List ℕ) (known : TableTrue ws cs) where
                 let q : c ≡ firstZero cs = omega (arith, d) in
                 rw q taken-held
 
-        pub slot-taken : SlotChanged owns ws cs i (Search.Search.From (firstZero cs + 1)) after cs′
-        unfolding owned
+        pub slot-taken : SlotChanged owns ws cs i (Search.From (firstZero cs + 1)) after cs′
+        unfolding owned become
         slot-taken =
-            slot-done (s .words-are ∙ rw (sym takes-is ∙ e, tallied-free ws cs (known .table) (known .pool) h)) (s .counted) low-behind
+            changed-done (s .words-are ∙ rw (sym takes-is ∙ e, tallied-free ws cs (known .table) (known .pool) h)) (s .counted) low-behind
 
 -- ---- old words stored again
 

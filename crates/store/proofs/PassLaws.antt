@@ -17,7 +17,7 @@ use Rattle.rules.proofs.PlanLaws.{each-ext, InPool}
 use Rattle.tables.specs.Tables.{TableTrue}
 use Rattle.tables.specs.Tally.{firstZero}
 use Rattle.store.specs.declared.edit.Edit as CodeEdit
-use Rattle.store.specs.declared.edit.Search as Search
+use Rattle.store.specs.declared.edit.Search.{Search}
 use Rattle.store.specs.Edits.{editFrom}
 use Rattle.store.specs.Plan.{Planned, Outside, Undoable, Undone, Settleable}
 use Rattle.store.specs.Planner.{NoBlock, KindIs, goesOn, SlotChanged, inPass, only, Plannable, indexOf, wordsOf, Seen, Passed, EditPlanned}
@@ -141,7 +141,7 @@ module _ {g : Geometry} {e : CodeEdit.Edit} {size : ℕ} {first : Bool} {old ws�
       }
 
   module _ (h : j < slotCount g (e .off) (e .end)) {kind : Kind} (is : KindIs g e size (firstSlot g (e .off) + j) (getD old j 0) kind)
-      {next : Search.Search} {after cs′ : List ℕ} (same : length cs′ ≡ length cs)
+      {next : Search} {after cs′ : List ℕ} (same : length cs′ ≡ length cs)
       (t : SlotChanged (only (inPass first) kind) ws cs (indexOf g e + j) next after cs′) where
     changed-at : SlotChanged (only (inPass first) kind) ws cs (e .file * g .S + (firstSlot g (e .off) + j)) next after cs′
     changed-at =
@@ -156,7 +156,7 @@ module _ {g : Geometry} {e : CodeEdit.Edit} {size : ℕ} {first : Bool} {old ws�
     one-more = omega arith
 
     -- a slot that is done
-    pub pass-turn : {from : ℕ} → next ≡ Search.Search.From from → Passing g e size first old ws₀ cs₀ after cs′ (j + 1) from
+    pub pass-turn : {from : ℕ} → next ≡ Search.From from → Passing g e size first old ws₀ cs₀ after cs′ (j + 1) from
     unfolding run
     pass-turn ok =
         let k : ℕ = firstSlot g (e .off) + j in

@@ -42,7 +42,7 @@ module _ (ws old : List ℕ) (i : ℕ) (inside : i + length old ≤ length ws) w
         let all : i + length old - i ≡ length old = omega arith in
         sym (splice-same ws i (length old) inside) ∙ ap (splice ws i) (ap (λ n. take n (drop i ws)) (sym all) ∙ is)
 
-    need-same : need ws ≡ need (splice ws i old)
+    pub need-same : need ws ≡ need (splice ws i old)
     need-same = ap need unchanged
 
     pub planned-same : (cs : List ℕ) → TableTrue ws cs → fitsPool (length cs) (splice ws i old) ≡ true → Planned (splice ws i old) ws true ws cs

@@ -10,7 +10,7 @@ use Rattle.tables.specs.Tally.{firstZero}
 use Rattle.tables.specs.Tables.{TableTrue}
 use Rattle.store.specs.declared.edit.Act as Code
 use Rattle.store.specs.declared.edit.Edit as CodeEdit
-use Rattle.store.specs.declared.edit.Search as Search
+use Rattle.store.specs.declared.edit.Search.{Search}
 use Rattle.store.specs.Edits.{editFrom}
 use Rattle.store.specs.Plan.{Planned, Outside}
 
@@ -74,17 +74,17 @@ pub record NoBlock (c : Kind) (ws : List ℕ) (i n : ℕ) : Type 0 where
   pub full : n ≤ lowestFree ws
 
 -- whether the search goes on: the slot is done
-abbrev pub goesOn : Search.Search → Bool
-goesOn (Search.Search.From b) = true
-goesOn Search.Search.Full = false
+abbrev pub goesOn : Search → Bool
+goesOn (Search.From b) = true
+goesOn Search.Full = false
 
 -- no block below the one from which it goes on is free
-abbrev pub NoneBelow : Search.Search → List ℕ → Type 0
-NoneBelow (Search.Search.From b) counts = b ≤ firstZero counts
-NoneBelow Search.Search.Full counts = Unit {0}
+abbrev pub NoneBelow : Search → List ℕ → Type 0
+NoneBelow (Search.From b) counts = b ≤ firstZero counts
+NoneBelow Search.Full counts = Unit {0}
 
 -- slot i after its kind; not done, and nothing changed, where there is no block for it
-pub record SlotChanged (c : Kind) (ws counts : List ℕ) (i : ℕ) (s : Search.Search) (after counts′ : List ℕ) : Type 0 where
+pub record SlotChanged (c : Kind) (ws counts : List ℕ) (i : ℕ) (s : Search) (after counts′ : List ℕ) : Type 0 where
   pub words-are : after ≡ cond (goesOn s) (become c ws i) ws
   pub counted : TableTrue after counts′
   pub searched : NoneBelow s counts′

@@ -158,7 +158,8 @@ fn pass_slot(
 }
 
 // A pass over the slots of e, whose words before the edit are `old`, in rising order: in the first pass those that are given back, in the
-// second the others. Stops, and answers false, where a slot takes a block and none is free.
+// second the others. Each search for a free block goes on behind the last one. Stops, and answers false, where a slot takes a block and
+// none is free.
 fn pass(
     g: Geometry,
     words: &mut [u32],

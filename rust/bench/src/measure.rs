@@ -10,8 +10,7 @@ use second::{Geometry, Store, REPLY_MIN};
 use crate::case::{self, Case, Kind, Work, VERIFIER};
 use crate::pick;
 
-/// No other program.
-const ALONE: Option<fn() -> u128> = None;
+const SERVERS: [&dyn Server; 2] = [&Proved, &Second];
 
 const RUNS: usize = 7;
 
@@ -33,23 +32,31 @@ pub fn tables() {
         };
         let small = small.iter().map(|geometry| (*geometry, MANY));
         for (geometry, calls) in small.chain([(case::LARGE, FEW), (case::LARGEST, FEW)]) {
-            let columns = columns(&Case::new(kind, geometry, calls), ALONE);
+            let columns = columns(Case::new(kind, geometry, calls));
             println!("| {} | {} | {columns} |", kind.name(), four(&geometry));
         }
     }
     sweep();
 }
 
-/// The WRITEs of `pick`. `before` is this program, linked with another archive: its times stand
-/// beside those of this one.
+/// The WRITEs of `pick`, all of them in every round, so that they can be compared with each other.
+/// `before` is this program, linked with another archive: its times stand beside those of this one.
 pub fn picks(before: Option<&str>) {
-    println!("Nanoseconds per call, median of {RUNS} runs, each call timed by itself.\n");
+    println!("Nanoseconds per call, the lowest of {RUNS} rounds, each call timed by itself.\n");
     let [head, line] = before.map_or(["", ""], |_| [" Before | Ratio before |", "---|---|"]);
     println!("| WRITE | Geometry | Proved | Plain | Ratio |{head}");
     println!("|---|---|---|---|---|{line}");
-    for (number, pick) in pick::ALL.iter().enumerate() {
-        let other = before.map(|program| move || other(program, number));
-        let columns = columns(&pick.case(), other);
+    let mut rounds: Vec<Rounds> = pick::ALL
+        .iter()
+        .map(|pick| Rounds::new(pick.case()))
+        .collect();
+    for _ in 0..RUNS {
+        for (number, rounds) in rounds.iter_mut().enumerate() {
+            rounds.more(before.map(|program| other(program, number)));
+        }
+    }
+    for (pick, rounds) in pick::ALL.iter().zip(rounds) {
+        let columns = rounds.columns(|times| times[0]);
         println!("| {} | {} | {columns} |", pick.name, four(&pick.geometry));
     }
 }
@@ -79,8 +86,8 @@ fn sweep() {
     let by_slots = slots.map(|(files, slots)| case::geometry(files, slots, 65_536, 512));
     let by_blocks = [16, 256, 4096].map(|blocks| case::geometry(1, 16, blocks, 512));
     for geometry in by_blocks.into_iter().chain(by_slots) {
-        let [write, soundness] = [Kind::Write, Kind::Soundness]
-            .map(|kind| columns(&Case::new(kind, geometry, 4 * FEW), ALONE));
+        let [write, soundness] =
+            [Kind::Write, Kind::Soundness].map(|kind| columns(Case::new(kind, geometry, 4 * FEW)));
         println!("| {} | {write} | {soundness} |", four(&geometry));
     }
 }
@@ -95,27 +102,51 @@ fn four(geometry: &Geometry) -> String {
     format!("F {files}, S {slots}, N {blocks}, B {block_size}")
 }
 
-/// The nanoseconds of both, and their ratio; and of another program, if there is one.
-fn columns(case: &Case, other: Option<impl Fn() -> u128>) -> String {
-    let mut store = case.store.clone();
-    let mut runs: [Vec<u128>; 3] = Default::default();
+/// The medians of both, and their ratio.
+fn columns(case: Case) -> String {
+    let mut rounds = Rounds::new(case);
     for _ in 0..RUNS {
-        runs[0].push(run(&Proved, case, &mut store));
-        runs[1].push(run(&Second, case, &mut store));
-        runs[2].extend(other.as_ref().map(|other| other()));
+        rounds.more(None);
     }
-    let [proved, plain, other] = runs.map(median);
-    let [ratio, other_ratio] = [proved, other].map(|time| time as f64 / plain as f64);
-    match other {
-        0 => format!("{proved} | {plain} | {ratio:.2}"),
-        _ => format!("{proved} | {plain} | {ratio:.2} | {other} | {other_ratio:.2}"),
-    }
+    rounds.columns(|times| times[times.len() / 2])
 }
 
-/// 0 where there were no runs.
-fn median(mut times: Vec<u128>) -> u128 {
-    times.sort_unstable();
-    times.get(times.len() / 2).copied().unwrap_or(0)
+/// A case, and the nanoseconds of its runs: the proved server's, the plain one's, and another
+/// program's, if there is one.
+struct Rounds {
+    case: Case,
+    store: Store,
+    times: [Vec<u128>; 3],
+}
+
+impl Rounds {
+    fn new(case: Case) -> Rounds {
+        let store = case.store.clone();
+        let times = Default::default();
+        Rounds { case, store, times }
+    }
+
+    fn more(&mut self, other: Option<u128>) {
+        for (server, times) in SERVERS.iter().zip(&mut self.times) {
+            times.push(run(*server, &self.case, &mut self.store));
+        }
+        self.times[2].extend(other);
+    }
+
+    /// One of the times of each, in rising order, and the ratios.
+    fn columns(self, choose: impl Fn(&[u128]) -> u128) -> String {
+        let [proved, plain, other] = self.times.map(|mut times| {
+            times.sort_unstable();
+            (!times.is_empty()).then(|| choose(&times))
+        });
+        let (proved, plain) = (proved.unwrap_or(0), plain.unwrap_or(1));
+        let ratio = |time: u128| time as f64 / plain as f64;
+        let columns = format!("{proved} | {plain} | {:.2}", ratio(proved));
+        match other {
+            None => columns,
+            Some(other) => format!("{columns} | {other} | {:.2}", ratio(other)),
+        }
+    }
 }
 
 /// Nanoseconds per call of one run, from the case's store on.

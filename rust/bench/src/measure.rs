@@ -1,4 +1,4 @@
-//! Both servers in turn, the median of several runs.
+//! Both servers in turn, several runs of each.
 
 use std::hint::black_box;
 use std::process::Command;

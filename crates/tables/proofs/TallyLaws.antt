@@ -16,7 +16,8 @@ use Rattle.rules.specs.Lists.{bit, count, sumTo, countTo, allTo}
 use Rattle.rules.specs.Store.{isHole, isReserved, isShared, holds, holders, blockBound, used, owes, owed, lowestFree}
 use Rattle.tables.specs.Tables.{Tallied}
 use Rattle.tables.specs.Tally.{noted, takesBy, owesBy, OwedFrom, firstZero, HeldFrom}
-use Rattle.tables.specs.Groups.{groupAll}
+use Rattle.tables.specs.declared.groups.Sort.{Sort}
+use Rattle.tables.specs.Groups.{ofSort, groupAll}
 use Rattle.rules.proofs.CountLaws.{sumTo-ext, count-drop}
 use Rattle.rules.proofs.NeedLaws.{lowestFree-free, scan-ends, used-to}
 use Rattle.rules.proofs.BoolLaws.{and-false}
@@ -143,10 +144,10 @@ module _ (l : List ℕ) (b : ℕ) (inside : b < length l) where
     free = λ q. absurd (omega arith);
   }
 
-  pub held-group : groupAll (ltb 0) l b ≡ true → HeldFrom l b 16
+  pub held-group : groupAll (ofSort Sort.Held) l b ≡ true → HeldFrom l b 16
   held-group e = record {
-    inside = group-inside (ltb 0) l b e;
-    held = λ j h. ltb-true 0 (getD l (b + j) 0) (group-each (ltb 0) l b e j h);
+    inside = group-inside (ofSort Sort.Held) l b e;
+    held = λ j h. ltb-true 0 (getD l (b + j) 0) (group-each (ofSort Sort.Held) l b e j h);
     free = λ q. absurd (omega arith);
   }
 
@@ -166,16 +167,16 @@ count-skip p l (suc n) i room h =
     ))
 
 module _ (ws cs : List ℕ) (i : ℕ) where
-  pub owed-group : groupAll (λ w. not (isReserved w)) ws i ≡ true → OwedFrom ws cs i 16 0
+  pub owed-group : groupAll (ofSort Sort.Unreserved) ws i ≡ true → OwedFrom ws cs i 16 0
   owed-group e =
-      let room : i + 16 ≤ length ws = group-inside (λ w. not (isReserved w)) ws i e in
+      let room : i + 16 ≤ length ws = group-inside (ofSort Sort.Unreserved) ws i e in
       record {
         some = omega arith;
         inside = room;
         rest = omega (
           arith,
           count-skip (owesBy cs) ws 16 i room
-              (λ j h. rw (not-true (isReserved (getD ws (i + j) 0)) (group-each (λ w. not (isReserved w)) ws i e j h), and-false)),
+              (λ j h. rw (not-true (isReserved (getD ws (i + j) 0)) (group-each (ofSort Sort.Unreserved) ws i e j h), and-false)),
         );
       }
 

@@ -1,10 +1,17 @@
 -- Groups of sixteen, in which tables are looked at.
 use Prim.Native.Nat.{ℕ, _+_, _-_, _%_}
-use mathlib.Core.Bool.{Bool, _&&_}
+use mathlib.Core.Bool.{Bool, _&&_, not}
 use mathlib.Core.List.{List}
 use lib.ListN.{length, getD}
-use lib.Dec.{leb, eqb}
+use lib.Dec.{leb, ltb, eqb}
 use Rattle.rules.specs.Lists.{allTo}
+use Rattle.rules.specs.Store.{isReserved}
+use Rattle.tables.specs.declared.groups.Sort.{Sort}
+
+-- what is expected of a number: the block with that many holders is held, or the slot with that word is not reserved
+abbrev pub ofSort : Sort → ℕ → Bool
+ofSort Sort.Held n = ltb 0 n
+ofSort Sort.Unreserved w = not (isReserved w)
 
 -- a whole group of n numbers starts at i
 abbrev pub groupAt : ℕ → ℕ → Bool

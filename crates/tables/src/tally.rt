@@ -8,8 +8,8 @@ ghost use Rattle.tables.specs.Tables.{Tallied};
 ghost use Rattle.tables.specs.Tally.{noted, Untallied, takesBy, owesBy, OwedFrom, firstZero, HeldFrom};
 ghost use Rattle.rules.proofs.PlanLaws.{InPool};
 use crate::groups::Group;
-use crate::groups::group_held;
-use crate::groups::group_unreserved;
+use crate::groups::Sort;
+use crate::groups::group_of_sort;
 
 // Whether every word names one of the blocks, or none.
 pub fn words_formed(words: &[u32], blocks: usize) -> bool
@@ -110,7 +110,7 @@ fn owed_from(words: &[u32], counts: &[u32], i: usize) -> Owed
     requires { ⌜ InPool (length (now counts)) (now words) × (i < length (now words)) ⌝ }
     ensures { λ r. ⌜ OwedFrom (now (words .entry)) (now (counts .entry)) i (r .slots) (r .owed) ⌝ }
 {
-    if group_unreserved(words, i) {
+    if group_of_sort(Sort::Unreserved, words, i) {
         return Owed {
             slots: Group::SIZE,
             owed: 0,
@@ -142,7 +142,7 @@ fn held_from(counts: &[u32], b: usize) -> usize
     requires { ⌜ b < length (now counts) ⌝ }
     ensures { λ r. ⌜ HeldFrom (now (counts .entry)) b r ⌝ }
 {
-    if group_held(counts, b) {
+    if group_of_sort(Sort::Held, counts, b) {
         return Group::SIZE;
     }
     if counts[b] == 0 {

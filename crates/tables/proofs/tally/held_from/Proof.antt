@@ -8,7 +8,7 @@ use Rattle.tables.proofs.tally.held_from.Tie as tie
 returns : tie.Need-returns
 returns c =
     let g = c .before in
-    held-group _ _ (g .before .before .pre) (sym (g .group-held .ensures) ∙ c .if1 .taken)
+    held-group _ _ (g .before .before .pre) (sym (g .group-of-sort .ensures) ∙ c .if1 .taken)
 
 returns-2 : tie.Need-returns-2
 returns-2 c = held-none _ _ (c .before .before .before .before .before .pre) (c .if2 .taken)

@@ -8,7 +8,7 @@ returns : tie.Need-returns
 returns c =
     let g = c .before in
     let a = g .before .before .before .args in
-    owed-group (a .words .now) (a .counts .now) (a .i) (sym (g .group-unreserved .ensures) ∙ c .if1 .taken)
+    owed-group (a .words .now) (a .counts .now) (a .i) (sym (g .group-of-sort .ensures) ∙ c .if1 .taken)
 
 owes-block-requires : tie.Need-owes-block-requires
 owes-block-requires c κs =

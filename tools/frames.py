@@ -25,6 +25,8 @@ HEADER, LINE = -6, -7
 ZEROS, ONES, OTHER = bytes(16), b"\xff" * 16, bytes(15) + b"\x01"
 DATA, HOLE = 0, 1
 
+SUPPORTED_ATTRS, SIZE, SPACE_USED, CLONE_BLKSIZE, SPACE_FREED = 0, 4, 45, 77, 78
+
 
 # XDR (RFC 4506)
 
@@ -40,7 +42,21 @@ def opaque(data, pad=b"\0"):
     return u32(len(data)) + data + pad * (-len(data) % 4)
 
 
+def bitmap(*bits, words=0):
+    """A bitmap4 of these bits, with at least so many words."""
+    count = max([words] + [bit // 32 + 1 for bit in bits])
+    return u32(count) + b"".join(u32(sum(1 << bit % 32 for bit in bits if bit // 32 == at)) for at in range(count))
+
+
 # Operations (RFC 5662, RFC 7862)
+
+def gauge(*attributes, words=0):
+    """GETATTR; Python has a getattr of its own."""
+    return u32(9) + bitmap(*attributes, words=words)
+
+
+SPACE = gauge(SIZE, SPACE_USED, SPACE_FREED)
+
 
 def getfh():
     return u32(10)
@@ -121,6 +137,16 @@ def text(count):
     return bytes(at % 251 + 1 for at in range(count))
 
 
+def told(values):
+    """What GETATTR answers with these attributes, in rising order."""
+    return bitmap(*values) + opaque(b"".join(values.values()))
+
+
+def space(size, used, freed):
+    """What SPACE is answered; space in blocks."""
+    return told({SIZE: u64(size), SPACE_USED: u64(used * BLOCK), SPACE_FREED: u64(freed * BLOCK)})
+
+
 def walk(file, *pieces):
     """SEEKs for data and hole by turns over a file of these pieces, each (what, bytes), and two more at its size."""
     starts = list(itertools.accumulate((length for _, length in pieces), initial=0))
@@ -133,6 +159,16 @@ def walk(file, *pieces):
         yield OK, on(file, asked[-1]), u32(place == size) + u64(place)
     yield OK, on(file, seek(size, DATA)), u32(1) + u64(size)
     yield OK, on(file, seek(size, HOLE)), u32(1) + u64(size)
+
+
+# File 0's attributes at the first GETATTR: 2,049 bytes in 3 blocks of its own, nothing reserved
+FILE_0 = {
+    SUPPORTED_ATTRS: u32(3) + u32(0x11) + u32(0x2000) + u32(0x6000),
+    SIZE: u64(2049),
+    SPACE_USED: u64(1536),
+    CLONE_BLKSIZE: u32(512),
+    SPACE_FREED: u64(1536),
+}
 
 
 # The status of a line's answer, the line and, where they are told, the answer's last bytes
@@ -176,7 +212,7 @@ LINES = [
     (SEQUENCE_POS, on(0, u32(53))),  # at another place, its arguments missing
     (OP_ILLEGAL, compound(u32(2))),
     (NOTSUPP, compound(u32(3))),  # the first number
-    (NOTSUPP, on(0, u32(9) + u32(1) + u32(1))),  # GETATTR
+    (NOTSUPP, on(0, u32(24))),  # PUTROOTFH
     (NOTSUPP, on(0, u32(34) + ZEROS + u32(0) + u32(0))),  # SETATTR
     (NOTSUPP, on(0, u32(70))),
     (OP_ILLEGAL, on(0, u32(72))),  # past the last
@@ -238,6 +274,20 @@ LINES = [
     *walk(0, (DATA, 1024), (HOLE, 1024), (DATA, 1)),
     *walk(3),
     *walk(1, (DATA, 512)),
+
+    # GETATTR
+    *[(OK, on(0, gauge(attribute)), told({attribute: value})) for attribute, value in FILE_0.items()],
+    (OK, on(0, gauge(*FILE_0)), told(FILE_0)),
+    (OK, on(0, gauge()), told({})),  # no word
+    (OK, on(0, gauge(1, 33, 79, 96, 127)), told({})),  # none that we have
+    (OK, on(0, gauge(3, SIZE, 5, 44, SPACE_USED, 46, 76)), told({SIZE: u64(2049), SPACE_USED: u64(1536)})),
+    (OK, on(0, gauge(SIZE, words=4)), told({SIZE: u64(2049)})),  # three words of zeros
+    (OK, on(0, gauge(*range(128))), told(FILE_0)),  # four words of ones
+    (BADXDR, on(0, gauge(SIZE, words=5))),
+    (BADXDR, compound(u32(9) + u32(2**32 - 1))),  # before NOFILEHANDLE
+    (BADXDR, cut(on(0, gauge()), 1)),  # its count cut
+    (BADXDR, cut(on(0, gauge(*FILE_0)), 1)),  # a word cut
+    (NOFILEHANDLE, compound(gauge(SIZE))),
 
     # COPY
     (NOFILEHANDLE, on(0, copy(0, 0, 0, OTHER))),  # no saved handle
@@ -324,6 +374,22 @@ LINES = [
     (NOSPC, on(3, write(511, b"x"))),  # its reservation went with it
     (OK, on(3, write(512, text(4036)))),  # 8,192 digits
     (OK, compound(putfh(3), *[read_plus(512 + n, 2048) for n in range(11)], tag=text(1024))),  # 23,924 bytes
+
+    # the space of files, all of it given back first
+    (OK, compound(*[putfh(file) + deallocate(0, LAST) for file in range(4)], SPACE, count=9), space(TOP, 0, 0)),
+    (OK, on(0, write(0, text(1024)), SPACE), space(2049, 2, 2)),
+    (OK, both(0, 0, clone(0, 1024, 512), SPACE), space(2049, 3, 2)),  # slots 0 and 2 hold one block
+    (OK, on(0, allocate(0, 2048), SPACE), space(2049, 4, 2 + 3)),  # slots 0, 2 and 3 are owed
+    (OK, both(0, 1, clone(512, 0, 512), SPACE), space(3585, 1, 0)),  # the block of slot 1, in another file
+    (OK, on(0, SPACE), space(2049, 4, 1 + 4)),  # so slot 1 is owed
+    (OK, on(1, write(0, b"own"), SPACE), space(3585, 1, 1)),
+    (OK, on(0, deallocate(0, LAST), SPACE), space(2049, 0, 0)),
+
+    # RFC 7862's example of space_freed: two files of ten blocks, six of them shared
+    (OK, on(2, *[write(BLOCK * slot, b"a") for slot in range(10)], SPACE), space(TOP, 10, 10)),
+    (OK, both(2, 3, clone(0, 0, 6 * BLOCK), *[write(BLOCK * slot, b"b") for slot in range(6, 10)], SPACE), space(TOP, 10, 4)),
+    (OK, on(2, SPACE), space(TOP, 10, 4)),
+    (OK, on(2, deallocate(0, LAST), putfh(3), SPACE), space(TOP, 10, 10)),
     (OK, compound(*[putfh(file) + seek(0, HOLE) for file in range(4)], count=8)),  # no newline follows
 ]
 
@@ -334,6 +400,7 @@ EDIT = {OK, BADXDR, NOFILEHANDLE, BAD_STATEID, INVAL, NOSPC}
 READING = {OK, BADXDR, NOFILEHANDLE, BAD_STATEID}
 REACHED = {
     "compound": {OK, MINOR_VERS_MISMATCH, TOO_MANY_OPS},
+    "GETATTR": {OK, BADXDR, NOFILEHANDLE},
     "GETFH": {OK, NOFILEHANDLE},
     "PUTFH": {OK, BADXDR, BADHANDLE, STALE},
     "READ": READING,

@@ -16,8 +16,8 @@ import tempfile
 import xml.etree.ElementTree as ElementTree
 
 NAMES = {
-    0: "compound", 10: "GETFH", 22: "PUTFH", 25: "READ", 31: "RESTOREFH", 32: "SAVEFH", 34: "SETATTR", 38: "WRITE",
-    53: "SEQUENCE", 59: "ALLOCATE", 60: "COPY", 62: "DEALLOCATE", 68: "READ_PLUS", 69: "SEEK", 71: "CLONE",
+    0: "compound", 9: "GETATTR", 10: "GETFH", 22: "PUTFH", 25: "READ", 31: "RESTOREFH", 32: "SAVEFH", 34: "SETATTR",
+    38: "WRITE", 53: "SEQUENCE", 59: "ALLOCATE", 60: "COPY", 62: "DEALLOCATE", 68: "READ_PLUS", 69: "SEEK", 71: "CLONE",
     10044: "ILLEGAL",
 }
 STATUSES = {
@@ -26,6 +26,12 @@ STATUSES = {
     10064: "SEQUENCE_POS", 10070: "TOO_MANY_OPS", 10090: "UNION_NOTSUPP",
 }
 COMPOUND, SETATTR = 0, 34
+SUPPORTED_ATTRS = 0
+# The other attributes that we have: Wireshark's name and the size of the value.
+ATTRIBUTES = {
+    4: ("nfs.fattr4.size", 8), 45: ("nfs.fattr4.space_used", 8), 77: ("nfs.fattr4.clone_block_size", 4),
+    78: ("nfs.fattr4.space_freed", 8),
+}
 
 
 def name_of(operation):
@@ -35,6 +41,9 @@ def name_of(operation):
 # Our own decoding. A field has Wireshark's name, and its place in the message.
 
 Field = collections.namedtuple("Field", "part name place size value")
+
+# Wireshark's warning of a result's empty bitmap, as nothing that was asked for is there: a field without place and size.
+NO_MASK, NOWHERE = "nfs.protocol_violation", (0, 0)
 
 
 class Damaged(Exception):
@@ -49,6 +58,12 @@ class Body:
         if self.at + size > len(self.data):
             raise Damaged(f"bytes missing at {self.at}")
         return self.data[self.at:self.at + size]
+
+    def skip(self):
+        """A number without a field."""
+        value = int.from_bytes(self.peek(), "big")
+        self.at += 4
+        return value
 
     def note(self, name, size, value):
         self.fields.append(Field(self.part, name, self.at, size, value))
@@ -107,6 +122,53 @@ def data(name):
     return read
 
 
+def bitmap(body):
+    """The words of a bitmap4, each with its place."""
+    count = body.skip()
+    if count > 4:
+        raise Damaged(f"a bitmap of {count} words at {body.at - 4}")
+    return [(body.at, body.skip()) for _ in range(count)]
+
+
+def attributes(body, words, value):
+    """Wireshark shows each word that isn't zero, and behind it its attributes with their values."""
+    for at, (place, word) in enumerate(words):
+        numbers = [32 * at + bit for bit in range(32) if word >> bit & 1]
+        if numbers:
+            body.fields.append(Field(body.part, "nfs.attr_mask", place, 4, word))
+            body.fields.append(Field(body.part, "nfs.attr_count", place, 4, len(numbers)))
+        for number in numbers:
+            start, first = body.at, len(body.fields)
+            value(body, number)
+            body.fields.insert(first, Field(body.part, "nfs.attr", start, body.at - start, number))
+
+
+def asked(body):
+    attributes(body, bitmap(body), lambda *_: None)
+
+
+def value_of_attribute(body, number):
+    if number == SUPPORTED_ATTRS:
+        asked(body)
+    elif number in ATTRIBUTES:
+        body.number(*ATTRIBUTES[number])
+    else:
+        raise Damaged(f"attribute {number} isn't read here")
+
+
+def told(body):
+    words = bitmap(body)
+    if not words:
+        body.fields.append(Field(body.part, NO_MASK, *NOWHERE, ""))
+    elif words[-1][1] == 0:
+        raise Damaged(f"a last word of zeros at {words[-1][0]}")
+    size = body.skip()
+    end = body.at + size
+    attributes(body, words, value_of_attribute)
+    if body.at != end:
+        raise Damaged(f"values up to {body.at}, not {end}")
+
+
 def servers(body):
     if body.number("nfs.source_servers"):
         raise Damaged("a source server isn't read here")
@@ -142,6 +204,7 @@ consecutive = number("nfs.consecutive", most=1)
 synchronous = number("nfs.synchronous", most=1)
 
 ARGUMENTS = {
+    "GETATTR": [asked],
     "GETFH": [],
     "PUTFH": [handle],
     "READ": [stateid, offset, count],
@@ -156,6 +219,7 @@ ARGUMENTS = {
     "CLONE": [stateid, stateid, offset, offset, length],
 }
 RESULTS = {
+    "GETATTR": [told],
     "GETFH": [handle],
     "PUTFH": [],
     "READ": [eof, data("nfs.read.data_length")],
@@ -284,11 +348,13 @@ def their_fields(packet, start):
     """What our decoding gives, as Wireshark sees it, and its complaints."""
     fields, complaints = [], []
     for node in packet.iter():
-        if node.get("name") in ("_ws.malformed", "_ws.expert"):
+        if node.get("name") in ("_ws.malformed", "_ws.expert") and node.find(f"field[@name='{NO_MASK}']") is None:
             complaints.append(node.get("showname"))
     for node in packet.iterfind("proto[@name='nfs']//field"):
         name = node.get("name")
-        if name not in DERIVED and not name.startswith("_ws."):
+        if name == NO_MASK:
+            fields.append((name, *NOWHERE, ""))
+        elif name not in DERIVED and not name.startswith("_ws."):
             fields.append((name, int(node.get("pos")) - start, int(node.get("size")), value_of(node)))
     return fields, complaints
 
@@ -353,7 +419,7 @@ def main():
         capture.add(1, at, REPLY, answer)
     packets = read_capture(capture)
 
-    check, unread, setattrs = Check(), collections.Counter(), 0
+    check, unread, setattrs, empty = Check(), collections.Counter(), 0, 0
     if len(packets) != 2 * len(served):
         check.differ("capture", f"{len(packets)} packets")
     for (at, request, answer), call, reply in zip(served, packets[::2], packets[1::2]):
@@ -365,6 +431,7 @@ def main():
         # RFC 5661 has a bitmap in SETATTR's result after any status; an operation that isn't served has none.
         is_setattr = bool(results) and results[-1][0] == SETATTR
         setattrs += is_setattr
+        empty += sum(field.name == NO_MASK for field in fields)
         check.compare(f"line {at}, reply", "reply", fields, reply, BEFORE_RPC + 4 + len(REPLY), is_setattr)
         try:
             fields = decode_call(request)
@@ -380,6 +447,7 @@ def main():
     print(f"{len(requests)} lines, {len(served)} served")
     print("calls not compared, as they don't decode:", counted(unread))
     print("SETATTR results without RFC 5661's bitmap, which Wireshark misses:", setattrs)
+    print("GETATTR results with an empty bitmap, of which Wireshark warns:", empty)
     print("not read by this version:", ", ".join(sorted(check.unknown)) or "none")
     print(f"\n{'compared':14}{'in calls':>10}{'in replies':>12}{'fields':>8}")
     for part in sorted(check.fields):

@@ -12,7 +12,8 @@ use Rattle.xdr.specs.Decode.{value}
 use Rattle.rules.specs.Lists.{first}
 use Rattle.rules.specs.Store.{Geometry, Store}
 use Rattle.rules.specs.Edit.{Edit}
-use Rattle.rules.specs.Operation.{Op, writeReply, copyReply}
+use Rattle.rules.specs.Attributes.{fileAttrs}
+use Rattle.rules.specs.Operation.{Op, attrsReply, getattrReply, writeReply, copyReply}
 use Rattle.rules.specs.Run.{fileOf, errors, edits, does, sourceCount}
 use Rattle.rules.proofs.GeometryLaws.{good, lengths, block-pos}
 use Rattle.rules.proofs.SoundLaws.{sound-facts}
@@ -27,6 +28,8 @@ use Rattle.wire.specs.declared.operation.RegionArgs.{RegionArgs}
 use Rattle.wire.specs.declared.operation.CloneArgs.{CloneArgs}
 use Rattle.wire.specs.declared.operation.CopyArgs.{CopyArgs}
 use Rattle.compound.specs.declared.does.Does.{Does}
+use Rattle.wire.specs.declared.attrs.Asked.{Asked}
+use Rattle.wire.specs.Attrs.{asks, AsksAs}
 use Rattle.wire.specs.Decoded.{meaning}
 use Rattle.compound.specs.Runner.{fileIn, stateOf}
 use Rattle.compound.specs.Does.{Clear, SourceRead, DoesAs}
@@ -51,6 +54,11 @@ module _ {sizes : List ℕ} {p : Position} {a : CloneArgs} (k : SourceRead sizes
 
   pub source-sum : {e n : ℕ} → e ≡ fileOf (fileIn (p .saved)) → n ≡ cond (eqb (a .count) 0) (getD sizes e 0 - a .from) (a .count) → a .to + n < 2 ^ 64
   source-sum source m = rw (m, source) (k .sum)
+
+-- GETATTR: the attributes that the bitmap asks for
+pub attrs-same : (g : Geometry) (st : Store) (f : ℕ) (ws : List ℕ) (a : Asked) → AsksAs ws a → attrsReply (fileAttrs g st f) (asks a) ≡ getattrReply g st f ws
+unfolding getattrReply
+attrs-same g st f ws a h = ap (attrsReply (fileAttrs g st f)) (λ i x. h x i)
 
 -- n bytes of the source, file e, are meant
 meant-is : (p : Position) (sizes : List ℕ) {e n : ℕ} (from count : ℕ) → e ≡ fileOf (fileIn (p .saved)) → n ≡ cond (eqb count 0) (getD sizes e 0 - from) count

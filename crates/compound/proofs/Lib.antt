@@ -1,7 +1,6 @@
 pub mod RunLaws
 pub mod ErrorLaws
 pub mod LeafLaws
-pub mod SpliceLaws
 pub mod PieceLaws
 pub mod ReadOps
 pub mod DoesLaws

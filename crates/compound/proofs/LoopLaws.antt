@@ -22,7 +22,8 @@ use Rattle.rules.proofs.ChainLaws.{Step, decoded, undecoded, step-after, step-k
 use Rattle.compound.specs.declared.run.Progress.{Progress}
 use Rattle.compound.specs.Runner.{stateOf, Known, Runs, eventAt, Turned, started, RunsAll, RanAll}
 use Rattle.compound.proofs.RunLaws.{perform-item}
-use Rattle.compound.proofs.SpliceLaws.{written-none}
+use Rattle.xdr.proofs.BytesLaws.{written-none}
+use Rattle.xdr.proofs.ArrayLaws.{concatMap-append}
 
 -- ---- what stays known
 
@@ -118,17 +119,16 @@ place-end at [] z = refl
 place-end at (y ∷ zs) z = place-end (placeAfter at (y .item)) zs z
 
 results-end : (zs : List Event) (z : Event) → concatMap resultBytes (zs ++ (z ∷ [])) ≡ concatMap resultBytes zs ++ resultBytes z
-results-end [] z = append-nil (resultBytes z)
-results-end (y ∷ zs) z = ap (λ t. resultBytes y ++ t) (results-end zs z) ∙ sym (append-assoc (resultBytes y) (concatMap resultBytes zs) (resultBytes z))
+results-end zs z = concatMap-append resultBytes zs (z ∷ []) ∙ ap (λ t. concatMap resultBytes zs ++ t) (append-nil (resultBytes z))
 
 -- what came of them, while the run goes on or at its end
 pub record Sofar (st : Store) (at out : ℕ) (before : List ℕ) (zs : List Event) (r : Progress) (after : Store) (reply : List ℕ) : Type 0 where
   pub ran : RanAll zs st at out r after before reply
   pub place : r .at .at ≤ out + 2179 * r .count
 
-start-sofar : (st : Store) (at out : ℕ) (reply : List ℕ) → out ≤ length reply → Sofar st at out reply [] (started at out) st reply
-start-sofar st at out reply h = record {
-  ran = record { status-is = refl; count-is = refl; read-is = refl; store-is = refl; written = written-none reply out h };
+start-sofar : (st : Store) (at out : ℕ) (reply : List ℕ) → Sofar st at out reply [] (started at out) st reply
+start-sofar st at out reply = record {
+  ran = record { status-is = refl; count-is = refl; read-is = refl; store-is = refl; written = written-none reply out };
   place = omega arith;
 }
 
@@ -174,7 +174,7 @@ module _ {g : Geometry} {v s : List ℕ} (hv : length v ≡ 8) {st : Store} {ops
       let all : ops ≡ ops - 0 = omega arith in
       subst (λ (q : Progress). Held g v s st ops (r₀ .read) (r₀ .at .at) before (stateOf (q .at) st) counts₀ before q) (sym (a .start)) (record {
         zs = [];
-        sofar = start-sofar st (r₀ .read) (r₀ .at .at) before (omega (arith, a .room));
+        sofar = start-sofar st (r₀ .read) (r₀ .at .at) before;
         left = ap (λ (m : ℕ). reached (config g v) (fresh st) (items s m (r₀ .read))) all;
         within = omega arith;
         known = record { shaped = a .shaped; sound = a .sound; current = no-handle g; saved = no-handle g };

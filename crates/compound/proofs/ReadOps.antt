@@ -1,21 +1,25 @@
--- READ, READ_PLUS, SEEK and GETFH: the bodies as they are written.
+-- GETATTR, GETFH, READ, READ_PLUS and SEEK: what their bodies ask, and the bodies as they are written.
 use Prim.Native.Nat.{ℕ, _+_, _-_, _*_, _≤_, _<_, min}
 use mathlib.Core.Path.{_≡_, refl, sym, ap, _∙_}
 use mathlib.Core.Bool.{Bool, true}
 use mathlib.Core.List.{List, _++_, append-assoc, append-nil}
 use mathlib.Core.Logic.{_≢_}
+use native.Mathlib.Nat.{mul-le-mul}
 use native.Mathlib.Omega.{arith}
-use lib.ListN.{length, length-append}
+use lib.ListN.{length, getD, length-append}
 use lib.Dec.{leb, eqb}
 use Rattle.xdr.specs.Bytes.{splice, Written}
 use Rattle.xdr.specs.Encode.{be, u32, bool, opaque, opaqueSize, concatMap}
-use Rattle.xdr.proofs.BytesLaws.{length-splice, written-then}
+use Rattle.xdr.proofs.BytesLaws.{written-length, written-then, written-before}
 use Rattle.xdr.proofs.EncodeLaws.{length-u32, length-bool}
 use Rattle.rules.specs.Store.{Geometry, Store, sizeOf, bytesFrom, sound}
+use Rattle.rules.specs.Attributes.{spaceUsed, spaceFreed, Attr, FileAttrs, fileAttrs}
 use Rattle.rules.specs.Read.{granted, readPieces, seekPlace}
-use Rattle.rules.specs.Operation.{pieceBytes, readReply, readPlusReply, seekResult, seekReply}
+use Rattle.rules.specs.Operation.{attrsReply, pieceBytes, readReply, readPlusReply, seekResult, seekReply}
 use Rattle.rules.specs.Run.{fileOf}
 use Rattle.tables.specs.Tables.{Shaped}
+use Rattle.tables.specs.Space.{SpaceIs}
+use Rattle.tables.proofs.SpaceLaws.{used-most, freed-most}
 use Rattle.store.specs.Readable.{Placed, Readable}
 use Rattle.compound.specs.Pieces.{PiecesFit, PiecesPut, piecesTo, piecesSize}
 use Rattle.rules.proofs.SoundStore.{Sound}
@@ -24,9 +28,8 @@ use Rattle.rules.proofs.SoundLaws.{sound-facts}
 use Rattle.rules.proofs.BodyLaws.{read-plus-most}
 use Rattle.compound.proofs.PieceLaws.{length-pieces}
 use Rattle.compound.specs.declared.answer.Position.{Position}
-use Rattle.compound.specs.Runner.{fileIn, stateOf, Known, Shows, Seeks}
+use Rattle.compound.specs.Runner.{fileIn, stateOf, Known, Shows, Seeks, AttrsKnown, Views, Viewed}
 use Rattle.compound.proofs.RunLaws.{current-known}
-use Rattle.compound.proofs.SpliceLaws.{written-before}
 
 -- written as other bytes that are the same
 written-as : {bs cs : List ℕ} {n at q : ℕ} {x y : List ℕ} → bs ≡ cs → Written bs n at x y q → Written cs (length cs) at x y q
@@ -35,10 +38,6 @@ written-as {at = at} {x = x} e w = record {
   size = refl;
   place = w .place ∙ ap (λ (m : ℕ). at + m) (sym (w .size) ∙ ap length e);
 }
-
--- a writer leaves the length
-written-long : {bs : List ℕ} {n at q : ℕ} {x y : List ℕ} → Written bs n at x y q → at + n ≤ length x → length y ≡ length x
-written-long {bs} {at = at} {x = x} w h = ap length (w .bytes) ∙ length-splice x at bs (omega (arith, w .size, h))
 
 -- no bytes, as opaque data
 pub opaque-none : {n at q : ℕ} {x y : List ℕ} {m : ℕ} → m ≡ 0 → (g : Geometry) (st : Store) (f off : ℕ) → Written (u32 0) n at x y q
@@ -96,7 +95,7 @@ module _ {g : Geometry} {st : Store} {f at : ℕ} {reply : List ℕ} (w : Shows 
   -- there is room for them
   pub bytes-fit : (off n : ℕ) {l m p : ℕ} {bs y : List ℕ} → l ≡ granted n → m ≡ min l (sizeOf st f - off) → m ≢ 0 → Written bs 4 at reply y p
       → Readable g (st .words) (st .mem) f (off + m) × (p + opaqueSize m ≤ length y)
-  bytes-fit off n a b c v = (shown-readable (omega (arith, b, c)), omega (arith, a, b, v .place, written-long v (omega (arith, w .room)), w .room))
+  bytes-fit off n a b c v = (shown-readable (omega (arith, b, c)), omega (arith, a, b, v .place, written-length (omega (arith, w .room)) v, w .room))
 
   -- SEEK: what it asks
   pub shown-seeks : Seeks g (st .sizes) (st .words) f reply at
@@ -112,7 +111,7 @@ module _ {g : Geometry} {st : Store} {f at : ℕ} {reply : List ℕ} (w : Shows 
     pieces-room =
         let block = numbers (w .shaped) .block in
         let most = read-plus-most g (omega (arith, block)) st f block (known .fits f (w .file)) off n in
-        let long = written-long v (omega (arith, w .room)) in
+        let long = written-length (omega (arith, w .room)) v in
         rw same-pieces
         (omega (arith, simp (length-append, length-bool, length-u32) at most, length-pieces g st f (readPieces g st f off n), long, v .place, w .room))
 
@@ -128,13 +127,50 @@ module _ {g : Geometry} {st : Store} {f at : ℕ} {reply : List ℕ} (w : Shows 
         written-as (sym (append-assoc bs (u32 count) (concatMap (pieceBytes g st f) (piecesTo g st f off end))) ∙ rw (i, d, c, u .number, same-pieces))
         (written-then (omega (arith, w .room)) v (written-before refl pieces-room (u .written) t))
 
+-- GETATTR: what it asks
+pub shown-attrs : {g : Geometry} {st : Store} {counts : List ℕ} {f at : ℕ} {reply : List ℕ} → Views g st counts f reply at
+    → AttrsKnown g (st .sizes) (st .words) counts f reply at
+shown-attrs {g} {st} w = let s = w .shows in record {
+  space = record { geometry = s .shaped .geometry; counted = w .counted; slots = lengths g st (s .shaped .lengths) .slots; file = s .file };
+  blocks = w .blocks;
+  listed = file-listed (s .shaped) (s .file);
+  room = omega (arith, s .room);
+}
+
+module _ {g : Geometry} {sizes ws counts : List ℕ} {f : ℕ} {reply : List ℕ} {at : ℕ} (w : AttrsKnown g sizes ws counts f reply at) where
+  sized : Good g
+  sized = good g (w .space .geometry)
+
+  pub block-small : g .B ≤ 4096
+  block-small = sized .block-most
+
+  -- products that the code computes
+  room-small : {n : ℕ} → n ≤ length counts + g .S → g .B * n ≤ 272629760
+  room-small {n} h = let most : n ≤ 66560 = omega (arith, h, w .blocks, sized .blocks-most, sized .slots-most) in mul-le-mul (sized .block-most) most
+
+  module _ {used freed : ℕ} {after : List ℕ} (r : SpaceIs g ws f used freed counts after) where
+    pub used-small : g .B * used ≤ 272629760
+    used-small = room-small (omega (arith, r .used-is, used-most (w .space)))
+
+    pub freed-small : g .B * freed ≤ 272629760
+    freed-small = room-small (omega (arith, r .freed-is, freed-most (w .space)))
+
+    -- the values as the rules have them
+    abbrev counted : FileAttrs
+    counted = record { size = getD sizes f 0; spaceUsed = g .B * used; cloneBlksize = g .B; spaceFreed = g .B * freed }
+
+    pub attrs-written : (m : List ℕ) (p : Attr → Bool) {q : ℕ} {z : List ℕ} → Written (attrsReply counted p) (length (attrsReply counted p)) at reply z q
+        → Viewed (attrsReply (fileAttrs g (record { sizes = sizes; words = ws; mem = m }) f) p) at reply z q counts after
+    unfolding spaceUsed spaceFreed
+    attrs-written m p v = record { written = rw (← r .used-is, ← r .freed-is) v; table = r .table }
+
 -- ---- the result
 
 -- the file that is shown, and the room for its body behind number and status
 pub shows-there : {g : Geometry} (p : Position) {st : Store} → Known g (stateOf p st) → {f at q : ℕ} {bs before reply : List ℕ} → f ≡ fileOf (fileIn (p .current))
     → at + 2179 ≤ length before → Written bs 8 at before reply q → Shows g st f reply q
 shows-there p k e h w =
-    record { shaped = k .shaped; sound = k .sound; file = rw e (current-known p k); room = omega (arith, w .place, written-long w (omega (arith, h)), h) }
+    record { shaped = k .shaped; sound = k .sound; file = rw e (current-known p k); room = omega (arith, w .place, written-length (omega (arith, h)) w, h) }
 
 -- GETFH: a handle as opaque data, four bytes with no pad
 pub handle-bytes : (f : ℕ) → opaque (u32 f) ≡ u32 4 ++ u32 f

@@ -26,7 +26,7 @@ use Rattle.rules.proofs.ReplyLaws.{compound-results}
 use Rattle.tables.proofs.SurveyLaws.{sound-counted, surveyed-table}
 use Rattle.compound.specs.declared.run.Progress.{Progress}
 use Rattle.compound.specs.Runner.{Serves, started, RunsAll, RanAll}
-use Rattle.compound.proofs.SpliceLaws.{written-before}
+use Rattle.xdr.proofs.BytesLaws.{written-before}
 
 -- ---- the reply
 

@@ -8,7 +8,8 @@ use lib.Dec.{eqb}
 use Rattle.xdr.specs.Bytes.{partOf}
 use Rattle.xdr.specs.Encode.{u32, opaque}
 use Rattle.rules.specs.Store.{Geometry, Store}
-use Rattle.rules.specs.Operation.{Op, readReply, readPlusReply, seekReply, writeReply, copyReply}
+use Rattle.rules.specs.Attributes.{fileAttrs}
+use Rattle.rules.specs.Operation.{Op, attrsReply, readReply, readPlusReply, seekReply, writeReply, copyReply}
 use Rattle.rules.specs.Run.{fileOf, Does, sets, shows, edits, does}
 use Rattle.store.specs.declared.edit.Act.{Act}
 use Rattle.store.specs.declared.edit.Edit.{Edit}
@@ -16,6 +17,7 @@ use Rattle.store.specs.EditPromises.{EditKnown}
 use Rattle.store.specs.Edits.{editFrom, Applies}
 use Rattle.compound.specs.declared.answer.Position.{Position}
 use Rattle.wire.specs.declared.operation.CloneArgs.{CloneArgs}
+use Rattle.wire.specs.Attrs.{asks}
 use Rattle.compound.specs.declared.reads.View.{View}
 use Rattle.compound.specs.declared.does.Does as Code
 use Rattle.compound.specs.Runner.{fileIn, stateOf, Named}
@@ -23,6 +25,7 @@ use Rattle.compound.specs.Errors.{FirstError}
 
 -- the bytes that a view shows of file f
 abbrev pub viewBytes : Geometry → Store → ℕ → View → List ℕ
+viewBytes g st f (View.Attrs a) = attrsReply (fileAttrs g st f) (asks a)
 viewBytes g st f View.Handle = opaque (u32 f)
 viewBytes g st f (View.Read a) = readReply g st f (a .offset) (a .count)
 viewBytes g st f (View.ReadPlus a) = readPlusReply g st f (a .offset) (a .count)

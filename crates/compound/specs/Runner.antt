@@ -14,6 +14,7 @@ use Rattle.rules.specs.Calls.{resultBytes, placeAfter, lastPlace, lastStatus, l
 use Rattle.store.specs.Readable.{Placed}
 use Rattle.tables.specs.Lent.{geometryOf, Held}
 use Rattle.tables.specs.Tables.{Shaped, TableTrue}
+use Rattle.tables.specs.Space.{SpaceKnown}
 use Rattle.compound.specs.declared.answer.Handle.{Handle}
 use Rattle.compound.specs.declared.answer.Position.{Position}
 use Rattle.compound.specs.declared.answer.Answer.{Answer}
@@ -71,6 +72,24 @@ pub record Seeks (g : Geometry) (sizes ws : List ℕ) (f : ℕ) (reply : List �
   pub listed : f < length sizes
   pub room : at + 12 ≤ length reply
 
+-- where GETATTR's body is written: file f has its slots and its size, and there is room at place `at`
+pub record AttrsKnown (g : Geometry) (sizes ws counts : List ℕ) (f : ℕ) (reply : List ℕ) (at : ℕ) : Type 0 where
+  pub space : SpaceKnown g ws counts f
+  pub blocks : length counts ≡ g .N
+  pub listed : f < length sizes
+  pub room : at + 64 ≤ length reply
+
+-- where any body is written that shows file f, with a table of holders
+pub record Views (g : Geometry) (st : Store) (counts : List ℕ) (f : ℕ) (reply : List ℕ) (at : ℕ) : Type 0 where
+  pub shows : Shows g st f reply at
+  pub counted : TableTrue (st .words) counts
+  pub blocks : length counts ≡ g .N
+
+-- the body is written; the table of holders is as before
+pub record Viewed (body : List ℕ) (at : ℕ) (before reply : List ℕ) (next : ℕ) (counts counts′ : List ℕ) : Type 0 where
+  pub written : Written body (length body) at before reply next
+  pub table : counts′ ≡ counts
+
 -- ---- an operation
 
 -- its result written at p's place: number, status and body; the handles after it are p's
@@ -79,6 +98,18 @@ pub record Wrote (number status : ℕ) (body : List ℕ) (p : Position) (r : Ans
   pub current-is : r .after .current ≡ p .current
   pub saved-is : r .after .saved ≡ p .saved
   pub written : Written ((u32 number ++ u32 status) ++ body) (8 + length body) (p .at) before reply (r .after .at)
+
+-- where an operation that shows is answered
+pub record Showing (g : Geometry) (x : State) (counts reply : List ℕ) (at : ℕ) : Type 0 where
+  pub known : Known g x
+  pub counted : TableTrue (x .store .words) counts
+  pub blocks : length counts ≡ g .N
+  pub room : at + 2179 ≤ length reply
+
+-- and what it leaves
+pub record Showed (number : ℕ) (body : List ℕ) (p : Position) (r : Answer) (before reply counts counts′ : List ℕ) : Type 0 where
+  pub wrote : Wrote number 0 body p r before reply
+  pub table : counts′ ≡ counts
 
 -- the event z, with its result written at place `at` of the reply and a true table of holders
 pub record Answered (z : Event) (r : Answer) (after : Store) (counts : List ℕ) (at : ℕ) (before reply : List ℕ) : Type 0 where

@@ -22,6 +22,7 @@ use wire::CopyArgs;
 use wire::Operation;
 use wire::RegionArgs;
 use wire::WriteArgs;
+use wire::asked_in;
 use xdr::Span;
 
 // WRITE's data stand in the request; another edit's span is empty.
@@ -163,6 +164,7 @@ pub fn does_of(sizes: &[u64], s: &[u8], o: Operation, p: Position) -> Does
     let current = p.current;
     let saved = p.saved;
     match o {
+        Operation::GetAttr(d) => Does::Shows(View::Attrs(asked_in(s, d))),
         Operation::GetFh => Does::Shows(View::Handle),
         Operation::PutFh(h) => put_fh(s, h, p),
         Operation::Read(a) => Does::Shows(View::Read(a)),

@@ -194,6 +194,7 @@ pub fn error(g: Geometry, sizes: &[u64], s: &[u8], o: Operation, p: Position) ->
     let current = p.current;
     let saved = p.saved;
     match o {
+        Operation::GetAttr(_) => handle_error(current),
         Operation::GetFh => handle_error(current),
         Operation::PutFh(h) => put_fh_error(g, s, h),
         Operation::Read(a) => reading_error(s, a.stateid, current),

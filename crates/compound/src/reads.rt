@@ -1,4 +1,4 @@
-// What READ, READ_PLUS, SEEK and GETFH show: the bodies, and the result.
+// What GETATTR, GETFH, READ, READ_PLUS and SEEK show: the bodies, and the result.
 ghost use mathlib.Core.Path.{_≡_};
 ghost use mathlib.Core.List.{List};
 ghost use Prim.Native.Nat.{ℕ, _+_, _-_, _^_, _<_, _≤_, min};
@@ -8,9 +8,11 @@ ghost use Rattle.xdr.specs.Bytes.{Written};
 ghost use Rattle.xdr.specs.Encode.{u32, opaque};
 ghost use Rattle.tables.specs.Lent.{geometryOf, before, tables};
 ghost use Rattle.rules.specs.Read.{granted};
-ghost use Rattle.rules.specs.Operation.{readReply, readPlusReply, seekReply};
+ghost use Rattle.rules.specs.Attributes.{fileAttrs};
+ghost use Rattle.rules.specs.Operation.{attrsReply, readReply, readPlusReply, seekReply};
 ghost use Rattle.rules.specs.Run.{fileOf};
-ghost use Rattle.compound.specs.Runner.{fileIn, stateOf, Known, Shows, Wrote, Seeks};
+ghost use Rattle.wire.specs.Attrs.{asks};
+ghost use Rattle.compound.specs.Runner.{fileIn, stateOf, Shows, Seeks, AttrsKnown, Views, Viewed, Showing, Showed};
 ghost use Rattle.compound.specs.Does.{viewBytes};
 use crate::answer::Answer;
 use crate::answer::Position;
@@ -18,6 +20,8 @@ use crate::answer::file_of;
 use crate::pieces::put_file_bytes;
 use crate::pieces::put_pieces;
 use tables::Geometry;
+use wire::Asked;
+use wire::FileAttrs;
 use wire::Operation;
 use wire::ReadArgs;
 use wire::put_result;
@@ -134,6 +138,32 @@ fn put_seek(
     wire::put_sought(reply, at, p == size, p)
 }
 
+// GETATTR's body: the attributes that are asked for. It depends on sizes and words alone.
+fn put_file_attrs(
+    g: Geometry,
+    sizes: &[u64],
+    words: &[u32],
+    counts: &mut [u32],
+    f: usize,
+    a: Asked,
+    reply: &mut [u8],
+    at: usize,
+) -> usize
+    requires { ⌜ AttrsKnown (geometryOf g) (now sizes) (now words) (now counts) f (now reply) at ⌝ }
+    ensures { λ r. ⌜ ((m : List ℕ) → Viewed (attrsReply (fileAttrs (geometryOf g) (record { sizes = now (sizes .entry); words = now (words .entry); mem = m }) f) (asks a))
+        at (now (reply .entry)) (now (reply .exit)) r (now (counts .entry)) (now (counts .exit))) ⌝ }
+{
+    let b = g.block_size;
+    let room = tables::file_space(g, words, counts, f);
+    let v = FileAttrs {
+        size: sizes[f],
+        space_used: (b * room.used) as u64,
+        clone_blksize: b as u32,
+        space_freed: (b * room.freed) as u64,
+    };
+    wire::put_attrs(reply, at, a, v)
+}
+
 // GETFH's body: the handle as opaque data.
 fn put_handle(reply: &mut [u8], at: usize, f: usize) -> usize
     requires { ⌜ (f < 2 ^ 32) × (at + 8 ≤ length (now reply)) ⌝ }
@@ -145,28 +175,31 @@ fn put_handle(reply: &mut [u8], at: usize, f: usize) -> usize
 
 // What a result shows of the current file. SEEK's `count` is the kind that is asked for.
 pub enum View {
+    Attrs(Asked),
     Handle,
     Read(ReadArgs),
     ReadPlus(ReadArgs),
     Seek(ReadArgs),
 }
 
-// The body that shows it of file f.
+// The body that shows it of file f. The table of holders is afterwards as it was.
 fn put_view(
     g: Geometry,
     sizes: &[u64],
     words: &[u32],
     mem: &[u8],
+    counts: &mut [u32],
     f: usize,
     v: View,
     reply: &mut [u8],
     at: usize,
 ) -> usize
-    requires { ⌜ Shows (geometryOf g) (tables sizes words mem) f (now reply) at ⌝ }
-    ensures { λ r. ⌜ Written (viewBytes (geometryOf g) (before sizes words mem) f v)
-        (length (viewBytes (geometryOf g) (before sizes words mem) f v)) at (now (reply .entry)) (now (reply .exit)) r ⌝ }
+    requires { ⌜ Views (geometryOf g) (tables sizes words mem) (now counts) f (now reply) at ⌝ }
+    ensures { λ r. ⌜ Viewed (viewBytes (geometryOf g) (before sizes words mem) f v)
+        at (now (reply .entry)) (now (reply .exit)) r (now (counts .entry)) (now (counts .exit)) ⌝ }
 {
     match v {
+        View::Attrs(a) => put_file_attrs(g, sizes, words, counts, f, a, reply, at),
         View::Handle => put_handle(reply, at, f),
         View::Read(a) => put_read(g, sizes, words, mem, f, a.offset, a.count, reply, at),
         View::ReadPlus(a) => put_read_plus(g, sizes, words, mem, f, a.offset, a.count, reply, at),
@@ -180,19 +213,30 @@ pub fn show(
     sizes: &[u64],
     words: &[u32],
     mem: &[u8],
+    counts: &mut [u32],
     number: u32,
     v: View,
     p: Position,
     reply: &mut [u8],
 ) -> Answer
-    requires { ⌜ Known (geometryOf g) (stateOf p (tables sizes words mem)) × (p .at + 2179 ≤ length (now reply)) ⌝ }
-    ensures { λ r. ⌜ Wrote number 0 (viewBytes (geometryOf g) (before sizes words mem) (fileOf (fileIn (p .current))) v) p
-        r (now (reply .entry)) (now (reply .exit)) ⌝ }
+    requires { ⌜ Showing (geometryOf g) (stateOf p (tables sizes words mem)) (now counts) (now reply) (p .at) ⌝ }
+    ensures { λ r. ⌜ Showed number (viewBytes (geometryOf g) (before sizes words mem) (fileOf (fileIn (p .current))) v) p
+        r (now (reply .entry)) (now (reply .exit)) (now (counts .entry)) (now (counts .exit)) ⌝ }
 {
     let current = p.current;
     let saved = p.saved;
     let body = put_result(reply, p.at, number, Answer::OK);
-    let at = put_view(g, sizes, words, mem, file_of(current), v, reply, body);
+    let at = put_view(
+        g,
+        sizes,
+        words,
+        mem,
+        counts,
+        file_of(current),
+        v,
+        reply,
+        body,
+    );
     Answer {
         status: Answer::OK,
         after: Position { current, saved, at },

@@ -62,6 +62,7 @@ fn number(o: Operation) -> u32
     ensures { λ r. ⌜ ((s : List ℕ) → r ≡ opNumber (meaning s o)) ⌝ }
 {
     match o {
+        Operation::GetAttr(_) => Operation::GETATTR,
         Operation::GetFh => Operation::GETFH,
         Operation::PutFh(_) => Operation::PUTFH,
         Operation::Read(_) => Operation::READ,
@@ -105,7 +106,7 @@ fn operation(
             let at = p.at;
             without_body(k, Answer::OK, Position { current, saved, at }, reply)
         }
-        Does::Shows(v) => show(g, sizes, words, mem, k, v, p, reply),
+        Does::Shows(v) => show(g, sizes, words, mem, counts, k, v, p, reply),
         Does::Edits(e, d) => {
             let done = store::apply(g, sizes, words, mem, counts, e, xdr::part(s, d));
             edited(done, k, e, c.verifier, p, reply)

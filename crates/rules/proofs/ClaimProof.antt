@@ -12,14 +12,16 @@ use Rattle.rules.specs.Edit.{Edit}
 use Rattle.rules.specs.Operation.{Header}
 use Rattle.rules.specs.Run.{State, Event}
 use Rattle.rules.specs.Calls.{fresh, lastStore, Call, Outcome, Gives, answer}
-use Rattle.rules.specs.Claim.{Ran, Entry, ranCall, serving, Each, machine, events, history, Says, Refused, InOrder, OK, lastSet, Edits, GivesBack, Between, Allocated, ReadAfter, ReadsBack, Claim}
+use Rattle.rules.specs.Claim.{Ran, Entry, ranCall, serving, Each, machine, events, history, Says, Refused, InOrder, OK, lastSet, Edits, GivesBack, Between, Allocated, ReadAfter, ReadsBack, Claim, EveryEvent}
 use Rattle.rules.specs.Seek.{SeekClaim}
+use Rattle.rules.specs.Emptying.{EmptyingClaim}
 use Rattle.rules.proofs.BoolLaws.{and-left, and-right, and-both}
 use Rattle.rules.proofs.GeometryLaws.{Good, good, block-pos}
 use Rattle.rules.proofs.SoundStore.{Sound}
 use Rattle.rules.proofs.SoundLaws.{sound-facts, lengths-test, sound-test}
 use Rattle.rules.proofs.ChainLaws.{Step, Chain, nil, cons, step-before, chain-order, chain-end, chain-current, step-nospc, step-leaves, step-keeps, as-op, Has, step-has, allocated, write-ok, wrote-has, read-has}
 use Rattle.rules.proofs.SeekLaws.{step-seek}
+use Rattle.rules.proofs.EmptyingStep.{step-empties}
 use Rattle.rules.proofs.AnswerLaws.{Accepted, Refusal, accepted-or-refused, refused-call, refused-number, zs, ran-is, events-are, accepted-chain, store-is, number-is, accepted-says}
 use Rattle.rules.proofs.ReplyLaws.{fresh-ready}
 
@@ -170,12 +172,21 @@ module _ (E : Entry) (F : Fulfils E) where
         nospc = λ z m. step-nospc g bd (trail-mem g bd (w .1) z m);
       }
 
+  -- every operation reached starts in a sound state
+  steps-of : EveryEvent E Step
+  steps-of g t fine gd cs os contracts keeps z m =
+      let bd = good g fine in
+      let k = subst (Each E (λ c t o. o .number ≡ 0 → E .geometry c ≡ g) t cs) (trace-is t cs os contracts) keeps in
+      trail-mem g bd (trail g bd cs t gd k .1) z m
+
   -- of every SEEK reached
   pub seeks-of : SeekClaim E
   seeks-of g t fine gd cs os contracts keeps z m id off what f is passes =
-      let bd = good g fine in
-      let k = subst (Each E (λ c t o. o .number ≡ 0 → E .geometry c ≡ g) t cs) (trace-is t cs os contracts) keeps in
-      step-seek g bd id passes off what f (trail-mem g bd (trail g bd cs t gd k .1) z m) is
+      step-seek g (good g fine) id passes off what f (steps-of g t fine gd cs os contracts keeps z m) is
+
+  -- of every DEALLOCATE reached that empties a file
+  pub emptying-of : EmptyingClaim E
+  emptying-of g t fine gd cs os contracts keeps z m f e = step-empties g (good g fine) (steps-of g t fine gd cs os contracts keeps z m) f e
 
 -- ---- the entry that serves a compound
 
@@ -242,3 +253,6 @@ promise = claim-of serving serving-fulfils
 
 pub seeks : SeekClaim serving
 seeks = seeks-of serving serving-fulfils
+
+pub emptying : EmptyingClaim serving
+emptying = emptying-of serving serving-fulfils

@@ -1,6 +1,6 @@
 -- The hypotheses of the reservation and of the read-back are met: on P1 and P3, and on P5 and P6 with the CLONE of the region between, each
--- followed by a READ.
-use Prim.Native.Nat.{ℕ, zero, suc}
+-- followed by a READ. So are those of the law on emptying: after P5 either of the two files is emptied.
+use Prim.Native.Nat.{ℕ, zero, suc, _/_}
 use mathlib.Core.Path.{_≡_, refl, sym, ap, _∙_}
 use mathlib.Core.Bool.{Bool, true, false, _&&_, not, true≢false}
 use mathlib.Core.Option.{Option, none, some}
@@ -10,12 +10,14 @@ use native.Mathlib.Omega.{arith}
 use borrow.Author.Tests.{eq-eqb}
 use lib.ListN.{take, drop}
 use lib.Dec.{eqb}
-use Rattle.rules.specs.Store.{Geometry}
+use Rattle.rules.specs.Store.{Geometry, need}
+use Rattle.rules.specs.Attributes.{spaceFreed}
 use Rattle.rules.specs.Edit.{Edit, Act, write, copy, clone, allocate, deallocate}
-use Rattle.rules.specs.Operation.{Op, READ, bad}
+use Rattle.rules.specs.Operation.{Op, READ, DEALLOCATE, bad}
 use Rattle.rules.specs.Run.{zeroId, Event, failed}
 use Rattle.rules.specs.Calls.{fresh}
 use Rattle.rules.specs.Claim.{serving, history, OK, editDone, GivesBack, RightAfter, Allocated, ReadAfter, ReadsBack}
+use Rattle.rules.specs.Emptying.{owedForFile, Empties}
 use Rattle.rules.proofs.BoolLaws.{and-left, and-right}
 use Rattle.rules.proofs.Script as S
 
@@ -152,3 +154,23 @@ p3-seen = (refl, (refl, refl))
 pub p6-seen : OK (event 9 second) × (OK (event 11 second) × ReadsBack 0 0 0 1 (9 ∷ []) (event 11 second))
 unfolding S.rules
 p6-seen = (refl, (refl, refl))
+
+-- ---- P5, then file f is emptied: PUTFH, ALLOCATE; PUTFH, WRITE; PUTFH, SAVEFH, PUTFH, CLONE; PUTFH, DEALLOCATE
+
+abbrev emptied : ℕ → List Event
+emptied f = events 3 (S.allocate 1024 ∷ S.write 0 (7 ∷ []) ∷ S.clone 512 ∷ (S.on f ∷ DEALLOCATE zeroId 0 512 ∷ []) ∷ [])
+
+-- used + owed before and after, what space_freed said in blocks, and what other files owed for the file
+abbrev given : ℕ → Event → List ℕ
+given f z =
+    let ws = z .before .store .words in
+    need ws ∷ need (z .after .store .words) ∷ spaceFreed (S.geometry 3) ws f / 512 ∷ owedForFile (S.geometry 3) ws f ∷ []
+
+pub p5-empties : Empties (event 9 (emptied 1)) 1
+unfolding S.rules
+p5-empties = record { id = zeroId; n = 512; deallocate = ((_, refl), refl); whole = omega arith; done = refl }
+
+-- file 1 frees nothing, but file 0's reserved slot 0 has its block alone then
+pub p5-emptied : given 1 (event 9 (emptied 1)) ≡ 3 ∷ 2 ∷ 0 ∷ 1 ∷ []
+unfolding S.rules
+p5-emptied = refl

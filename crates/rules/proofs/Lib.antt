@@ -1,6 +1,7 @@
 pub mod AllocateLaws
 pub mod AnswerLaws
 pub mod ArrayLaws
+pub mod AttributeLaws
 pub mod BodyLaws
 pub mod BoolLaws
 pub mod ChainLaws
@@ -10,6 +11,8 @@ pub mod CountLaws
 pub mod DeallocateLaws
 pub mod EditForms
 pub mod EditLaws
+pub mod EmptyingLaws
+pub mod EmptyingStep
 pub mod ErrorLaws
 pub mod Examples
 pub mod SoundStore

@@ -17,7 +17,7 @@ use Rattle.rules.specs.Lists.{first, tabulate}
 use Rattle.rules.specs.Store.{Geometry, Store, sizeOf, wordOf, need, fitsPool, byteAt, content}
 use Rattle.rules.specs.Edit.{Edit, edited}
 use Rattle.rules.specs.Read.{readCount, atEnd}
-use Rattle.rules.specs.Operation.{NOSPC, Op, GETFH, RESTOREFH, SAVEFH, PUTFH, READ, READ-PLUS, WRITE, ALLOCATE, DEALLOCATE, SEEK, COPY, CLONE, opNumber, op, readReply, readResult}
+use Rattle.rules.specs.Operation.{NOSPC, Op, GETATTR, GETFH, RESTOREFH, SAVEFH, PUTFH, READ, READ-PLUS, WRITE, ALLOCATE, DEALLOCATE, SEEK, COPY, CLONE, opNumber, op, readReply, readResult}
 use Rattle.rules.specs.Run.{State, noFile, fileOf, zeroId, errors, Config, Does, sets, shows, edits, does, editOf, effect, body, Event, failed, countedAfter, perform}
 use Rattle.rules.specs.Claim.{arrayEdit}
 use Rattle.rules.proofs.SlotByteLaws.{length-tab, getD-tab}
@@ -28,7 +28,7 @@ use Rattle.rules.proofs.WriteLaws.{inside, write-edited, write-bytes, w
 use Rattle.rules.proofs.AllocateLaws.{allocate-reserved}
 use Rattle.rules.proofs.EditLaws.{Lawful, writes, copies, clones, allocates, deallocates, edit-change, Back, edit-r, edit-content}
 use Rattle.rules.proofs.ErrorLaws.{known, first-known, put-clear, write-clear, allocate-clear, deallocate-clear, copy-clear, clone-clear, meant}
-use Rattle.rules.proofs.BodyLaws.{read-most, read-plus-most, seek-most, write-most, copy-most, any-file}
+use Rattle.rules.proofs.BodyLaws.{getattr-most, read-most, read-plus-most, seek-most, write-most, copy-most, any-file}
 
 -- ---- a sound state: handles name files
 
@@ -89,6 +89,7 @@ module _ (g : Geometry) (wide : 512 ≤ g .B) (x : State) (r : Ready g x) where
     statuses = refl;
     did = λ h. did-show {b = opaque (u32 (fileOf (x .current)))} (omega (arith, length-opaque (u32 (fileOf (x .current))), length-u32 (fileOf (x .current))));
   }
+  op-facts (GETATTR ws) = record { number = omega arith; statuses = refl; did = λ h. did-show (getattr-most g (x .store) (fileOf (x .current)) ws) }
   op-facts RESTOREFH = record { number = omega arith; statuses = refl; did = λ h. did-set (r .saved) (r .saved) (λ e. absurd (true≢false e)) }
   op-facts SAVEFH = record { number = omega arith; statuses = refl; did = λ h. did-set (r .current) (r .current) (λ e. refl) }
   op-facts (PUTFH d) = record {

@@ -2,16 +2,18 @@
 use Prim.Native.Nat.{ℕ}
 use mathlib.Core.List.{List, [], _∷_, _++_, map}
 use lib.ListN.{length, take, replicate}
-use Rattle.xdr.specs.Encode.{u32, concatMap, be, u64, bool, opaque}
+use Rattle.xdr.specs.Encode.{u32, concatMap, be, u64, bool, opaque, array}
 use Rattle.xdr.specs.Bytes.{partOf, splice}
-use Rattle.xdr.specs.Decode.{fixedAt, fixed, number, upTo, padded, opaqueAt, opaqueUpTo}
+use Rattle.xdr.specs.Decode.{fixedAt, fixed, number, upTo, padded, opaqueAt, opaqueUpTo, arrayAt, arrayUpTo}
 use Rattle.rules.specs.Store.{Geometry, goodBlockSize, goodGeometry, Store, goodLengths, emptyStore, used, owed, lowestFree, byteAt, soundFile, sound}
 use Rattle.rules.specs.Edit.{givesBack, kindOf, owned, become, pass, plan, storeSlot, fillSlot, editBytes, edited}
 use Rattle.rules.specs.Read.{join, pieces, seekFrom}
-use Rattle.rules.specs.Operation.{Op, PUTFH, SAVEFH, WRITE, ALLOCATE, CLONE, itemAt, items, header, requestBytes, readReply, readPlusReply, seekReply}
+use Rattle.rules.specs.Attributes.{spaceUsed, freedBlocks, spaceFreed}
+use Rattle.rules.specs.Operation.{Op, PUTFH, SAVEFH, WRITE, ALLOCATE, CLONE, itemAt, items, header, requestBytes, getattrReply, readReply, readPlusReply, seekReply}
 use Rattle.rules.specs.Run.{zeroId, errors, does, editOf, effect, body, perform, reached}
 use Rattle.rules.specs.Calls.{compound, replyBytes, Call, Outcome, served, refusal, answer, makeRefusal, madeStore, storeRefusal, usedCount, owedCount, slotRefusal, slotView, slotIsHole}
 use Rattle.rules.specs.Claim.{ranCall, serving, machine, events, history, editDone, extend, arrayWrite, arrayZero, arrayAct, arrayEdit, arrayAfter}
+use Rattle.rules.specs.Emptying.{owedForFile}
 
 -- a pool of n blocks
 abbrev pub geometry : ℕ → Geometry
@@ -82,5 +84,5 @@ machineTold r = map told (machine serving (empty (r .pool)) (map (call (r .pool)
 -- ---- computing: `unfolding rules` opens every definition of the rules
 
 unfoldable pub rules : Unit {0}
-unfolding partOf splice be u32 u64 bool opaque fixedAt fixed number upTo padded opaqueAt opaqueUpTo goodBlockSize goodGeometry goodLengths emptyStore used owed lowestFree byteAt soundFile sound givesBack kindOf owned become pass plan storeSlot fillSlot editBytes edited join pieces seekFrom itemAt items header requestBytes readReply readPlusReply seekReply errors does editOf effect body perform reached compound replyBytes served refusal answer makeRefusal madeStore storeRefusal usedCount owedCount slotRefusal slotView slotIsHole ranCall machine events history editDone extend arrayWrite arrayZero arrayAct arrayEdit arrayAfter
+unfolding partOf splice be u32 u64 bool opaque array fixedAt fixed number upTo padded opaqueAt opaqueUpTo arrayAt arrayUpTo goodBlockSize goodGeometry goodLengths emptyStore used owed lowestFree byteAt soundFile sound givesBack kindOf owned become pass plan storeSlot fillSlot editBytes edited join pieces seekFrom spaceUsed freedBlocks spaceFreed itemAt items header requestBytes getattrReply readReply readPlusReply seekReply errors does editOf effect body perform reached compound replyBytes served refusal answer makeRefusal madeStore storeRefusal usedCount owedCount slotRefusal slotView slotIsHole ranCall machine events history editDone extend arrayWrite arrayZero arrayAct arrayEdit arrayAfter owedForFile
 rules = tt

@@ -312,3 +312,8 @@ pub record Promise (E : Entry) (g : Geometry) (t : E .Tables) (cs : List (E .Giv
 abbrev pub Claim : Entry → Type 0
 Claim E = (g : Geometry) (t : E .Tables) → goodGeometry g ≡ true → E .good g t ≡ true → (cs : List (E .Given)) (os : List (Outcome (E .Tables)))
     → Each E (E .Contract) t cs os → Each E (λ c t o. o .number ≡ 0 → E .geometry c ≡ g) t cs os → Promise E g t cs os
+
+-- P of every operation that such a list reaches
+abbrev pub EveryEvent : Entry → (Geometry → Event → Type 0) → Type 0
+EveryEvent E P = (g : Geometry) (t : E .Tables) → goodGeometry g ≡ true → E .good g t ≡ true → (cs : List (E .Given)) (os : List (Outcome (E .Tables)))
+    → Each E (E .Contract) t cs os → Each E (λ c t o. o .number ≡ 0 → E .geometry c ≡ g) t cs os → (z : Event) → List·Memᴰ z (history E t cs) → P g z

@@ -2,9 +2,11 @@ pub mod Lists
 pub mod Store
 pub mod Edit
 pub mod Read
+pub mod Attributes
 pub mod Operation
 pub mod Run
 pub mod Calls
 pub mod Line
 pub mod Claim
 pub mod Seek
+pub mod Emptying

@@ -7,9 +7,10 @@ use lib.ListN.{length}
 use lib.Dec.{leb, eqb}
 use Rattle.xdr.specs.Encode.{u32, concatMap}
 use Rattle.xdr.specs.Decode.{Parsed, got, fault, Reader, ret, _>>=_, number}
-use Rattle.xdr.specs.Layout.{Layout, uint, hyper, upToLimit, boolean, bytes, opaqueData, anyLength, _then_}
+use Rattle.xdr.specs.Layout.{Layout, uint, hyper, upToLimit, boolean, bytes, opaqueData, anyLength, uints, _then_}
 use Rattle.rules.specs.Store.{Geometry, Store, sizeOf, bytesFrom}
 use Rattle.rules.specs.Read.{readCount, atEnd, Piece, readPieces, seekPlace}
+use Rattle.rules.specs.Attributes.{Attr, attrNumber, supported, select, asksFor, bitmap, FileAttrs, fileAttrs, attrValue}
 
 -- ---- status numbers
 
@@ -63,6 +64,8 @@ UNION-NOTSUPP = 10090
 -- an operation with its arguments, in the RFC's order
 pub data Op : Type 0 where
   GETFH RESTOREFH SAVEFH : Op
+  -- bitmap
+  GETATTR : List ℕ → Op
   -- handle
   PUTFH : List ℕ → Op
   -- stateid, offset, count
@@ -86,6 +89,10 @@ stateid = bytes 16
 abbrev pub handleArgs : Layout (List ℕ)
 handleArgs = opaqueData 128
 
+-- a bitmap of at most four words (request K4)
+abbrev pub bitmapArgs : Layout (List ℕ)
+bitmapArgs = uints 4
+
 -- of READ, READ_PLUS and SEEK
 abbrev pub readArgs : Layout (List ℕ × (ℕ × ℕ))
 readArgs = stateid then hyper then uint
@@ -108,6 +115,7 @@ copyArgs = cloneArgs then boolean then boolean then uint
 -- ---- writing an operation: its number and its arguments' bytes
 
 abbrev pub wire : Op → ℕ × List ℕ
+wire (GETATTR ws) = (9, bitmapArgs .write ws)
 wire GETFH = (10, [])
 wire (PUTFH h) = (22, handleArgs .write h)
 wire (READ i o n) = (25, readArgs .write (i, (o, n)))
@@ -152,7 +160,8 @@ reading l f = do
 -- the operations that we serve: number, and how the arguments are read
 abbrev pub readers : List (ℕ × Reader (Option Op))
 readers =
-    (10, ret (some GETFH))
+    (9, reading bitmapArgs (λ ws. some (GETATTR ws)))
+    ∷ (10, ret (some GETFH))
     ∷ (22, reading handleArgs (λ h. some (PUTFH h)))
     ∷ (25, reading readArgs (λ a. some (three READ a)))
     ∷ (31, ret (some RESTOREFH))
@@ -229,6 +238,10 @@ requestBytes tag os = headerLayout .write (tag, (2, length os)) ++ concatMap opB
 
 -- ---- the layouts of results
 
+-- the bitmap of the attributes shown, and their values
+abbrev pub attrResult : Layout (List ℕ × List ℕ)
+attrResult = uints anyLength then opaqueData anyLength
+
 -- eof, data
 abbrev pub readResult : Layout (Bool × List ℕ)
 readResult = boolean then opaqueData anyLength
@@ -257,6 +270,14 @@ abbrev pub copyResult : Layout (ℕ × (ℕ × (ℕ × (List ℕ × (Bool × Boo
 copyResult = uint then hyper then uint then bytes 8 then boolean then boolean
 
 -- ---- the bodies of results
+
+-- the attributes that pass the test
+abbrev pub attrsReply : FileAttrs → (Attr → Bool) → List ℕ
+attrsReply v p = let xs = select p supported in attrResult .write (bitmap xs, concatMap (attrValue v) xs)
+
+-- those that the bitmap ws asks for; what we don't have is left out
+unfoldable pub getattrReply : Geometry → Store → ℕ → List ℕ → List ℕ
+getattrReply g st f ws = attrsReply (fileAttrs g st f) (λ a. asksFor ws (attrNumber a))
 
 unfoldable pub readReply : Geometry → Store → ℕ → ℕ → ℕ → List ℕ
 readReply g st f off n = readResult .write (atEnd st f off n, bytesFrom g st f off (readCount st f off n))

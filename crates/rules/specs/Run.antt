@@ -10,7 +10,7 @@ use Rattle.xdr.specs.Decode.{value}
 use Rattle.rules.specs.Lists.{first}
 use Rattle.rules.specs.Store.{Geometry, Store, sizeOf, fitsPool}
 use Rattle.rules.specs.Edit.{Edit, writing, copying, cloning, allocating, deallocating, edited}
-use Rattle.rules.specs.Operation.{NXIO, INVAL, FBIG, NOSPC, STALE, BADHANDLE, NOFILEHANDLE, BAD-STATEID, UNION-NOTSUPP, Op, GETFH, RESTOREFH, SAVEFH, PUTFH, READ, READ-PLUS, WRITE, ALLOCATE, DEALLOCATE, SEEK, COPY, CLONE, Item, op, bad, readReply, readPlusReply, seekReply, writeReply, copyReply}
+use Rattle.rules.specs.Operation.{NXIO, INVAL, FBIG, NOSPC, STALE, BADHANDLE, NOFILEHANDLE, BAD-STATEID, UNION-NOTSUPP, Op, GETATTR, GETFH, RESTOREFH, SAVEFH, PUTFH, READ, READ-PLUS, WRITE, ALLOCATE, DEALLOCATE, SEEK, COPY, CLONE, Item, op, bad, getattrReply, readReply, readPlusReply, seekReply, writeReply, copyReply}
 
 -- the current and the saved file, and the store
 pub record State : Type 0 where
@@ -77,6 +77,7 @@ uneven g st s soff off n =
 
 -- handles are four bytes, the file's number (house); length 0 of ALLOCATE and DEALLOCATE is INVAL (house); SEEK at the size is no error (request K2)
 unfoldable pub errors : Geometry → State → Op → List (Bool × ℕ)
+errors g x (GETATTR ws) = (noFile (x .current), NOFILEHANDLE) ∷ []
 errors g x GETFH = (noFile (x .current), NOFILEHANDLE) ∷ []
 errors g x SAVEFH = (noFile (x .current), NOFILEHANDLE) ∷ []
 errors g x RESTOREFH = (noFile (x .saved), NOFILEHANDLE) ∷ []
@@ -123,6 +124,7 @@ pub data Does : Type 0 where
 
 -- DEALLOCATE's region is cut at the size
 unfoldable pub does : Geometry → State → Op → Does
+does g x (GETATTR ws) = shows (getattrReply g (x .store) (fileOf (x .current)) ws)
 does g x GETFH = shows (opaque (u32 (fileOf (x .current))))
 does g x SAVEFH = sets (x .current) (x .current)
 does g x RESTOREFH = sets (x .saved) (x .saved)

@@ -3,7 +3,7 @@ use Prim.Native.Nat.{ℕ, zero, suc, _+_, _-_, _≤_, _<_}
 use mathlib.Core.Path.{_≡_}
 use mathlib.Core.Bool.{Bool, true, false, cond, not}
 use mathlib.Core.Option.{Option, none, some}
-use mathlib.Core.List.{List, [], _∷_, List·Memᴰ}
+use mathlib.Core.List.{List, [], _∷_}
 use mathlib.Core.Logic.{_↔_, _⊎_}
 use lib.ListN.{length, drop}
 use lib.Dec.{eqb}
@@ -14,8 +14,8 @@ use Rattle.rules.specs.Store.{Geometry, goodGeometry, Store, goodLengths
 use Rattle.rules.specs.Read.{holeAt, Piece}
 use Rattle.rules.specs.Operation.{NXIO, UNION-NOTSUPP, PUTFH, SEEK, requestBytes, seekResult}
 use Rattle.rules.specs.Run.{zeroId, readStateid, Config, Event}
-use Rattle.rules.specs.Calls.{resultLayout, replyHead, Call, Outcome, answer}
-use Rattle.rules.specs.Claim.{Entry, Each, history, OK, Is, laid, Unlike}
+use Rattle.rules.specs.Calls.{resultLayout, replyHead, Call, answer}
+use Rattle.rules.specs.Claim.{Entry, OK, Is, laid, Unlike, EveryEvent}
 
 -- ---- the answer
 
@@ -38,9 +38,7 @@ pub record SeekRight (g : Geometry) (f off what : ℕ) (z : Event) : Type 0 wher
 
 -- of every SEEK that a list of calls reaches, as in the claim
 abbrev pub SeekClaim : Entry → Type 0
-SeekClaim E = (g : Geometry) (t : E .Tables) → goodGeometry g ≡ true → E .good g t ≡ true → (cs : List (E .Given)) (os : List (Outcome (E .Tables)))
-    → Each E (E .Contract) t cs os → Each E (λ c t o. o .number ≡ 0 → E .geometry c ≡ g) t cs os
-    → (z : Event) → List·Memᴰ z (history E t cs) → (id : List ℕ) (off what f : ℕ) → Is z (SEEK id off what) f → readStateid id ≡ true → SeekRight g f off what z
+SeekClaim E = EveryEvent E (λ g z. (id : List ℕ) (off what f : ℕ) → Is z (SEEK id off what) f → readStateid id ≡ true → SeekRight g f off what z)
 
 -- ---- the walk
 

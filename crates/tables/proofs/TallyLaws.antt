@@ -9,13 +9,13 @@ use native.Mathlib.Decide.{decLt}
 use native.Mathlib.Numerals.{add-one, sub-one}
 use native.Mathlib.Omega.{arith}
 use borrow.Author.Tests.{not-true, eq-eqb, ne-eqb, eqb-true, eqb-false, ltb-true}
-use lib.ListN.{length, getD, set, drop}
+use lib.ListN.{length, getD, set, drop, getD-replicate}
 use lib.Seq.{getD-set-same, getD-set-other}
 use lib.Dec.{ltb, eqb}
 use Rattle.rules.specs.Lists.{bit, count, sumTo, countTo, allTo}
 use Rattle.rules.specs.Store.{isHole, isReserved, isShared, holds, holders, blockBound, used, owes, owed, lowestFree}
 use Rattle.tables.specs.Tables.{Tallied}
-use Rattle.tables.specs.Tally.{noted, takesBy, owesBy, OwedFrom, firstZero, HeldFrom}
+use Rattle.tables.specs.Tally.{noted, NotesFit, NotedAll, Untallied, takesBy, owesBy, OwedFrom, firstZero, HeldFrom}
 use Rattle.tables.specs.declared.groups.Sort.{Sort}
 use Rattle.tables.specs.Groups.{ofSort, groupAll}
 use Rattle.rules.proofs.CountLaws.{sumTo-ext, count-drop}
@@ -34,7 +34,7 @@ allTo-fails n i p h e = go (allTo n p) refl
     go true q = absurd (true≢false (sym (allTo-at n p q i h) ∙ e))
     go false q = refl
 
-bit-most : (t : Bool) → bit t ≤ 1
+pub bit-most : (t : Bool) → bit t ≤ 1
 bit-most true = omega arith
 bit-most false = omega arith
 
@@ -43,7 +43,7 @@ count-most p [] = omega arith
 count-most p (x ∷ l) = omega (arith, bit-most (p x), count-most p l)
 
 -- equal at each element
-count-ext : (p q : ℕ → Bool) (l : List ℕ) → ((i : ℕ) → p (getD l i 0) ≡ q (getD l i 0)) → count p l ≡ count q l
+pub count-ext : (p q : ℕ → Bool) (l : List ℕ) → ((i : ℕ) → p (getD l i 0) ≡ q (getD l i 0)) → count p l ≡ count q l
 count-ext p q [] h = refl
 count-ext p q (x ∷ l) h = omega (arith, ap bit (h 0), count-ext p q l (λ i. h (suc i)))
 
@@ -84,6 +84,21 @@ noted-at (suc j) cs b h = go (eqb b j) refl
 pub noted-turn : (ws cs : List ℕ) (i b : ℕ) → i < length ws → b < length cs
     → getD (noted (getD ws i 0 / 2) cs) b 0 + holders b (drop (i + 1) ws) ≡ getD cs b 0 + holders b (drop i ws)
 noted-turn ws cs i b h k = rw (add-one i) (omega (arith, noted-at (getD ws i 0 / 2) cs b k, count-drop (holds b) ws i h))
+
+-- a table of zeros: what `note_all` asks, and what it leaves
+module _ {ws cs : List ℕ} (ready : Untallied ws cs) where
+  zero-at : (b : ℕ) → b < length cs → getD cs b 0 ≡ 0
+  zero-at b h = ap (λ (l : List ℕ). getD l b 0) (ready .zeros) ∙ getD-replicate (length cs) b 0 0 h
+
+  pub zeros-fit : NotesFit ws cs
+  zeros-fit = record { pool = ready .pool; few = λ b h. omega (arith, zero-at b h, count-most (holds b) ws, ready .few) }
+
+  pub zeros-noted : {after : List ℕ} → NotedAll ws cs after → Tallied ws after
+  zeros-noted t = record {
+    each = λ b h.
+        let l : b < length cs = omega (arith, t .long) in
+        omega (arith, t .each b l, zero-at b l);
+  }
 
 -- ---- the search for the first 0
 
@@ -185,7 +200,7 @@ module _ (ws cs : List ℕ) (i : ℕ) where
 
 -- ---- read off the table
 
-pool-top : (n : ℕ) (ws : List ℕ) → InPool n ws → blockBound ws ≤ n
+pub pool-top : (n : ℕ) (ws : List ℕ) → InPool n ws → blockBound ws ≤ n
 pool-top n [] h = omega arith
 pool-top n (w ∷ ws) h = omega (arith, h 0, pool-top n ws (λ p. h (suc p)))
 

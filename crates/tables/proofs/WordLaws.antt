@@ -37,7 +37,7 @@ unfolding noted
 length-noted zero cs = refl
 length-noted (suc b) cs = length-set cs b (getD cs b 0 + 1)
 
-forgot-at : (k : ℕ) (cs : List ℕ) (b : ℕ) → b < length cs → (k ≡ suc b → 1 ≤ getD cs b 0) → getD (forgot k cs) b 0 + bit (eqb k (suc b)) ≡ getD cs b 0
+pub forgot-at : (k : ℕ) (cs : List ℕ) (b : ℕ) → b < length cs → (k ≡ suc b → 1 ≤ getD cs b 0) → getD (forgot k cs) b 0 + bit (eqb k (suc b)) ≡ getD cs b 0
 unfolding forgot
 forgot-at zero cs b h p = rw (ne-eqb 0 (suc b) (λ (e : 0 ≡ suc b). omega arith)) (omega arith)
 forgot-at (suc j) cs b h p = go (eqb b j) refl

@@ -6,7 +6,7 @@ use mathlib.Core.List.{List, [], _∷_}
 use lib.ListN.{length, getD, set, drop, replicate}
 use lib.Dec.{ltb}
 use Rattle.rules.specs.Lists.{count}
-use Rattle.rules.specs.Store.{isHole, isReserved}
+use Rattle.rules.specs.Store.{isHole, isReserved, holders}
 use Rattle.rules.proofs.PlanLaws.{InPool}
 
 -- the counts with one more for block k - 1; a hole's k is 0
@@ -18,6 +18,16 @@ noted (suc b) counts = set counts b (getD counts b 0 + 1)
 unfoldable pub forgot : ℕ → List ℕ → List ℕ
 forgot zero counts = counts
 forgot (suc b) counts = set counts b (getD counts b 0 - 1)
+
+-- words noted one after the other: their blocks are in the table, and no count grows too large
+pub record NotesFit (ws counts : List ℕ) : Type 0 where
+  pub pool : InPool (length counts) ws
+  pub few : (b : ℕ) → b < length counts → getD counts b 0 + holders b ws ≤ 65536
+
+-- one holder more for each
+pub record NotedAll (ws before after : List ℕ) : Type 0 where
+  pub long : length after ≡ length before
+  pub each : (b : ℕ) → b < length before → getD after b 0 ≡ getD before b 0 + holders b ws
 
 -- what the pass starts from: the counts zero, the slots few enough to count, their blocks in the table
 pub record Untallied (ws counts : List ℕ) : Type 0 where

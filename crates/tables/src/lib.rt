@@ -1,8 +1,10 @@
-// The store's tables: geometry, slot words and the table of holders; soundness, counts, an empty store, and one slot shown.
+// The store's tables: geometry, slot words and the table of holders; soundness, counts, a file's room, an empty store, and one slot
+// shown.
 mod files;
 mod geometry;
 mod groups;
 mod make;
+mod space;
 mod survey;
 mod tally;
 mod view;
@@ -11,6 +13,8 @@ mod words;
 pub use geometry::Geometry;
 pub use geometry::good_lengths;
 pub use make::make_empty;
+pub use space::Space;
+pub use space::file_space;
 pub use survey::Counts;
 pub use survey::count_blocks;
 pub use survey::soundness;

@@ -5,7 +5,7 @@ ghost use lib.ListN.{length, getD};
 ghost use lib.Dec.{leb, ltb};
 ghost use Rattle.rules.specs.Lists.{allTo, bit, count};
 ghost use Rattle.tables.specs.Tables.{Tallied};
-ghost use Rattle.tables.specs.Tally.{noted, Untallied, takesBy, owesBy, OwedFrom, firstZero, HeldFrom};
+ghost use Rattle.tables.specs.Tally.{noted, NotesFit, NotedAll, Untallied, takesBy, owesBy, OwedFrom, firstZero, HeldFrom};
 ghost use Rattle.rules.proofs.PlanLaws.{InPool};
 use crate::groups::Group;
 use crate::groups::Sort;
@@ -38,10 +38,10 @@ pub fn note(counts: &mut [u32], w: u32)
     counts[b] = counts[b] + 1;
 }
 
-// Counts the holders of each block, in a table of zeros.
-pub fn tally(words: &[u32], counts: &mut [u32])
-    requires { ⌜ Untallied (now words) (now counts) ⌝ }
-    ensures { λ _. ⌜ Tallied (now (words .entry)) (now (counts .exit)) ⌝ }
+// One more holder of its block for each word.
+pub fn note_all(words: &[u32], counts: &mut [u32])
+    requires { ⌜ NotesFit (now words) (now counts) ⌝ }
+    ensures { λ _. ⌜ NotedAll (now (words .entry)) (now (counts .entry)) (now (counts .exit)) ⌝ }
 {
     let mut i = 0;
     while i < words.len() {
@@ -50,8 +50,16 @@ pub fn tally(words: &[u32], counts: &mut [u32])
     }
 }
 
-// 1 where a block with n holders is used, else 0.
-fn held(n: u32) -> usize
+// Counts the holders of each block, in a table of zeros.
+pub fn tally(words: &[u32], counts: &mut [u32])
+    requires { ⌜ Untallied (now words) (now counts) ⌝ }
+    ensures { λ _. ⌜ Tallied (now (words .entry)) (now (counts .exit)) ⌝ }
+{
+    note_all(words, counts);
+}
+
+// 1 where n is above 0, else 0.
+fn above_zero(n: u32) -> usize
     ensures { λ r. ⌜ r ≡ bit (ltb 0 n) ⌝ }
 {
     if 0 < n {
@@ -60,17 +68,24 @@ fn held(n: u32) -> usize
     0
 }
 
+// How many of the numbers are above 0.
+pub fn count_above_zero(numbers: &[u32]) -> usize
+    ensures { λ r. ⌜ r ≡ count (ltb 0) (now (numbers .entry)) ⌝ }
+{
+    let mut n: usize = 0;
+    let mut i = 0;
+    while i < numbers.len() {
+        n += above_zero(numbers[i]);
+        i += 1;
+    }
+    n
+}
+
 // How many blocks have a holder.
 pub fn used_blocks(counts: &[u32]) -> usize
     ensures { λ r. ⌜ r ≡ count (ltb 0) (now (counts .entry)) ⌝ }
 {
-    let mut n: usize = 0;
-    let mut b = 0;
-    while b < counts.len() {
-        n += held(counts[b]);
-        b += 1;
-    }
-    n
+    count_above_zero(counts)
 }
 
 // Whether a slot with word w is a hole or holds a shared block.

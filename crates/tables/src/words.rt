@@ -7,7 +7,7 @@ ghost use Rattle.tables.specs.Tables.{TableTrue, Stored};
 use crate::tally::note;
 
 // One holder less of the block of word w; a hole has none.
-fn forget(counts: &mut [u32], w: u32)
+pub fn forget(counts: &mut [u32], w: u32)
     requires { ⌜ (w / 2 ≤ length (now counts)) × ((0 < w / 2) → (0 < getD (now counts) (w / 2 - 1) 0)) ⌝ }
     ensures { λ _. ⌜ now (counts .exit) ≡ forgot (w / 2) (now (counts .entry)) ⌝ }
 {

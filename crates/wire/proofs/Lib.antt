@@ -1,2 +1,3 @@
 pub mod RequestLaws
 pub mod FieldLaws
+pub mod AttrLaws

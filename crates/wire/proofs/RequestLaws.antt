@@ -13,14 +13,14 @@ use Rattle.xdr.specs.declared.read.Word.{Word}
 use Rattle.xdr.specs.declared.read.Long.{Long}
 use Rattle.xdr.specs.declared.read.Bytes.{Bytes}
 use Rattle.xdr.specs.Bytes.{partOf}
-use Rattle.xdr.specs.Decode.{Parsed, got, fault, stop, andThen, Reader, number, upTo, fixedAt, fixed, opaqueAt, opaqueUpTo}
+use Rattle.xdr.specs.Decode.{Parsed, got, fault, stop, andThen, Reader, number, upTo, fixedAt, fixed, opaqueAt, opaqueUpTo, arrayAt, arrayUpTo}
 use Rattle.xdr.specs.Answers.{ofWord, ofLong, ofBytes}
 use Rattle.xdr.specs.Layout.{Layout, boolean, _then_}
 use Rattle.wire.specs.declared.operation.CloneArgs.{CloneArgs}
 use Rattle.wire.specs.declared.decode.StartAnswer.{StartAnswer}
 use Rattle.wire.specs.declared.decode.CloneAnswer.{CloneAnswer}
 use Rattle.rules.specs.Operation.{NOTSUPP, BADXDR, OP-ILLEGAL, SEQUENCE-POS, Op, READ, READ-PLUS, SEEK, ALLOCATE, DEALLOCATE, COPY, op, bad, three, argsItem, reading, readArgs, regionArgs, copyOf, copyArgs, numberItem, unserved, itemAt, header, headerLayout, readers, find}
-use Rattle.wire.specs.Decoded.{startStop, ofHandle, ofStartArgs, ofReadArgs, ofRegionArgs, cloneParts, ofCloneArgs, cloneStop, ReadLike, RegionLike}
+use Rattle.wire.specs.Decoded.{startStop, ofHandle, ofBitmap, ofStartArgs, ofReadArgs, ofRegionArgs, cloneParts, ofCloneArgs, cloneStop, ReadLike, RegionLike}
 
 -- ---- one field
 
@@ -70,6 +70,12 @@ opaque-missed limit s at h e g = rw (at-fault h e (ap ofBytes g))
 pub handle-read : (s : List ℕ) (at : ℕ) (r : Bytes) → ofBytes r ≡ opaqueAt 128 s at → ofHandle s r ≡ opaqueUpTo 128 s at
 handle-read s at (Bytes.Found d c) e = sym (opaque-found 128 s at e refl)
 handle-read s at (Bytes.Fault p) e = sym (opaque-missed 128 s at refl e refl)
+
+-- a bitmap is an array of numbers
+pub bitmap-read : (s : List ℕ) (at : ℕ) (r : Bytes) → ofBytes r ≡ arrayAt 4 s at → ofBitmap s r ≡ arrayUpTo 4 s at
+unfolding arrayUpTo
+bitmap-read s at (Bytes.Found d c) e = rw (← e)
+bitmap-read s at (Bytes.Fault p) e = rw (← e)
 
 -- ---- arguments that are the first of others
 

@@ -7,7 +7,7 @@ use mathlib.Core.List.{List}
 use lib.Dec.{eqb}
 use Rattle.xdr.specs.declared.read.Bytes.{Bytes}
 use Rattle.xdr.specs.Bytes.{partOf}
-use Rattle.xdr.specs.Decode.{Parsed, got, fault}
+use Rattle.xdr.specs.Decode.{Parsed, got, fault, numbers}
 use Rattle.xdr.specs.Layout.{Layout, hyper, _then_}
 use Rattle.wire.specs.declared.operation.CloneArgs.{CloneArgs}
 use Rattle.wire.specs.declared.operation.Operation.{Operation}
@@ -20,13 +20,17 @@ use Rattle.wire.specs.declared.decode.CloneAnswer.{CloneAnswer}
 use Rattle.wire.specs.declared.decode.CopyAnswer.{CopyAnswer}
 use Rattle.wire.specs.declared.operation.Header as read
 use Rattle.wire.specs.declared.decode.HeaderRead.{HeaderRead}
-use Rattle.rules.specs.Operation.{Op, GETFH, RESTOREFH, SAVEFH, PUTFH, READ, READ-PLUS, WRITE, ALLOCATE, DEALLOCATE, SEEK, COPY, CLONE, Item, op, bad, Header, stateid}
+use Rattle.rules.specs.Operation.{Op, GETATTR, GETFH, RESTOREFH, SAVEFH, PUTFH, READ, READ-PLUS, WRITE, ALLOCATE, DEALLOCATE, SEEK, COPY, CLONE, Item, op, bad, Header, stateid}
 
 -- ---- arguments, in the order of their layouts
 
 abbrev pub ofHandle : List ℕ → Bytes → Parsed (List ℕ)
 ofHandle s (Bytes.Found d c) = got (partOf s d) (c .at)
 ofHandle s (Bytes.Fault p) = fault p
+
+abbrev pub ofBitmap : List ℕ → Bytes → Parsed (List ℕ)
+ofBitmap s (Bytes.Found d c) = got (numbers (partOf s d)) (c .at)
+ofBitmap s (Bytes.Fault p) = fault p
 
 -- the first arguments of READ, WRITE and ALLOCATE
 abbrev pub startArgs : Layout (List ℕ × ℕ)
@@ -72,6 +76,7 @@ ofCopyArgs s (CopyAnswer.Fault p) = fault p
 
 -- the operation that the code's stands for in request s
 abbrev pub meaning : List ℕ → Operation → Op
+meaning s (Operation.GetAttr d) = GETATTR (numbers (partOf s d))
 meaning s Operation.GetFh = GETFH
 meaning s (Operation.PutFh h) = PUTFH (partOf s h)
 meaning s (Operation.Read a) = READ (partOf s (a .stateid)) (a .offset) (a .count)

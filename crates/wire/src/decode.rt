@@ -1,8 +1,8 @@
 // Readers of a request: the arguments of each layout, an operation, the header. Each asks nothing of the place it is given.
 ghost use mathlib.Core.Path.{_≡_};
 ghost use Rattle.xdr.specs.Decode.{got};
-ghost use Rattle.rules.specs.Operation.{handleArgs, readArgs, writeArgs, regionArgs, cloneArgs, copyArgs, unserved, numberItem, itemAt, header};
-ghost use Rattle.wire.specs.Decoded.{startArgs, startStop, ofHandle, ofStartArgs, ofReadArgs, ofWriteArgs, ofRegionArgs, ofCloneArgs, cloneStop, ofCopyArgs, ofHeader, itemOf, ReadLike, RegionLike, Always};
+ghost use Rattle.rules.specs.Operation.{handleArgs, bitmapArgs, readArgs, writeArgs, regionArgs, cloneArgs, copyArgs, unserved, numberItem, itemAt, header};
+ghost use Rattle.wire.specs.Decoded.{startArgs, startStop, ofHandle, ofBitmap, ofStartArgs, ofReadArgs, ofWriteArgs, ofRegionArgs, ofCloneArgs, cloneStop, ofCopyArgs, ofHeader, itemOf, ReadLike, RegionLike, Always};
 use crate::operation::CloneArgs;
 use crate::operation::CopyArgs;
 use crate::operation::Header;
@@ -82,6 +82,13 @@ pub fn handle_args(s: &[u8], c: Cursor) -> Bytes
     ensures { λ r. ⌜ ofHandle (now (s .entry)) r ≡ handleArgs .read (now (s .entry)) (c .at) ⌝ }
 {
     c.opaque(s, Operation::MAX_HANDLE)
+}
+
+// The span has the words.
+pub fn bitmap_args(s: &[u8], c: Cursor) -> Bytes
+    ensures { λ r. ⌜ ofBitmap (now (s .entry)) r ≡ bitmapArgs .read (now (s .entry)) (c .at) ⌝ }
+{
+    c.array(s, Operation::MAX_BITMAP)
 }
 
 fn start_args(s: &[u8], c: Cursor) -> StartAnswer
@@ -232,6 +239,15 @@ pub fn copy_args(s: &[u8], c: Cursor) -> CopyAnswer
 }
 
 // The operations with arguments, by their layouts: what stands at `c`, behind the number.
+fn get_attr_item(s: &[u8], c: Cursor) -> Item
+    ensures { λ r. ⌜ itemOf (now (s .entry)) r ≡ numberItem (now (s .entry)) (got 9 (c .at)) ⌝ }
+{
+    let Bytes::Found(d, next) = bitmap_args(s, c) else {
+        return Item::Bad(Operation::GETATTR, Operation::BADXDR);
+    };
+    Item::Op(Operation::GetAttr(d), next)
+}
+
 fn put_fh_item(s: &[u8], c: Cursor) -> Item
     ensures { λ r. ⌜ itemOf (now (s .entry)) r ≡ numberItem (now (s .entry)) (got 22 (c .at)) ⌝ }
 {
@@ -322,6 +338,7 @@ fn numbered_item(s: &[u8], n: u32, c: Cursor) -> Item
     ensures { λ r. ⌜ itemOf (now (s .entry)) r ≡ numberItem (now (s .entry)) (got n (c .at)) ⌝ }
 {
     match n {
+        Operation::GETATTR => get_attr_item(s, c),
         Operation::GETFH => Item::Op(Operation::GetFh, c),
         Operation::PUTFH => put_fh_item(s, c),
         Operation::READ => read_item(s, n, c),

@@ -1,8 +1,13 @@
 // Operations and results as bytes: the decoded operation, the readers of a request, the layouts of results. It knows no store.
+mod attrs;
 mod decode;
 mod operation;
 mod result;
 
+pub use attrs::Asked;
+pub use attrs::FileAttrs;
+pub use attrs::asked_in;
+pub use attrs::put_attrs;
 pub use decode::HeaderRead;
 pub use decode::header;
 pub use decode::item;

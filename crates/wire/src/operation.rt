@@ -46,7 +46,9 @@ pub struct CopyArgs {
     pub synchronous: u32,
 }
 
+// GETATTR's span has the words of its bitmap, PUTFH's the handle.
 pub enum Operation {
+    GetAttr(Span),
     GetFh,
     PutFh(Span),
     Read(ReadArgs),
@@ -63,6 +65,8 @@ pub enum Operation {
 
 impl Operation {
     // Operation numbers.
+    pub const GETATTR: u32 = 9;
+
     pub const GETFH: u32 = 10;
 
     pub const PUTFH: u32 = 22;
@@ -95,12 +99,14 @@ impl Operation {
 
     pub const ILLEGAL: u32 = 10044;
 
-    // Limits: bytes of a stateid, of a handle and of a tag; the highest stable_how; operations in a compound.
+    // Limits: bytes of a stateid, of a handle and of a tag; words of a bitmap; the highest stable_how; operations in a compound.
     pub const STATEID: usize = 16;
 
     pub const MAX_HANDLE: u32 = 128;
 
     pub const MAX_TAG: u32 = 1024;
+
+    pub const MAX_BITMAP: u32 = 4;
 
     pub const MAX_STABLE: u32 = 2;
 

@@ -2,12 +2,12 @@
 use Prim.Native.Nat.{ℕ, _+_, _-_, _≤_, _<_}
 use mathlib.Core.Path.{_≡_, refl, sym, ap, _∙_}
 use mathlib.Core.List.{List, [], _∷_, _++_, append-assoc, append-nil}
-use native.Mathlib.Nat.{add-assoc, add-sub-of-le}
+use native.Mathlib.Nat.{add-zero, add-assoc, add-sub-of-le}
 use native.Mathlib.Numerals.{add-one, add-two, add-three}
 use native.Mathlib.Omega.{arith}
-use lib.ListN.{length, getD, set, take, drop, replicate, length-append, length-take, length-drop, List·getD-append, drop-of-length-le, length-replicate, length-set}
+use lib.ListN.{length, getD, set, take, drop, replicate, length-append, length-take, length-drop, List·getD-append, drop-of-length-le, length-replicate, length-set, take-append-drop}
 use borrow.Author.Fill.{fill-none, fill-more}
-use lib.Seq.{getD-append-add, getD-take, getD-drop, length-take-le, take-all, take-nil, drop-drop, take-append-add, drop-append-add, sets-eq, take-append-seam, take-suc, take-suc-set}
+use lib.Seq.{take-append-le, take-take, drop-append-seam, getD-append-add, getD-take, getD-drop, length-take-le, take-all, take-nil, drop-drop, take-append-add, drop-append-add, sets-eq, take-append-seam, take-suc, take-suc-set}
 use borrow.Rule.Slice.PartMut as P
 use Rattle.xdr.specs.Bytes.{partOf, splice, Written}
 
@@ -71,6 +71,15 @@ splice-splice m at a b h =
     ∙ ap (λ (n : ℕ). drop n m) sum in
     rw (front, back) (append-assoc t a (b ++ drop (at + length (a ++ b)) m) ∙ ap (λ (l : List ℕ). t ++ l) (sym (append-assoc a b (drop (at + length (a ++ b)) m))))
 
+-- a writer with room keeps the length
+pub written-length : {a : List ℕ} {n at p : ℕ} {x y : List ℕ} → at + n ≤ length x → Written a n at x y p → length y ≡ length x
+written-length {a} {n} {at} {x = x} h w = ap length (w .bytes) ∙ length-splice x at a (omega (arith, w .size))
+
+-- no bytes
+pub written-none : (x : List ℕ) (at : ℕ) → Written [] 0 at x x at
+unfolding splice
+written-none x at = record { bytes = rw (add-zero at) (sym (take-append-drop at x)); size = refl; place = omega arith }
+
 -- what two writers leave, the second behind the first
 pub written-then : {a b : List ℕ} {n m at p q : ℕ} {x y z : List ℕ} → at ≤ length x → Written a n at x y p → Written b m p y z q
     → Written (a ++ b) (n + m) at x z q
@@ -81,6 +90,27 @@ written-then {a} {b} {n} {m} {at} {p} {q} {x} {y} {z} h f g =
       size = omega (arith, length-append a b, f .size, g .size);
       place = omega (arith, f .place, g .place);
     }
+
+-- two splices, the second just before the first, are one
+pub splice-before : (m : List ℕ) (at b : ℕ) (a c : List ℕ) → at + length a ≡ b → b + length c ≤ length m → splice (splice m b c) at a ≡ splice m at (a ++ c)
+unfolding splice
+splice-before m at b a c e h =
+    let t = take b m in
+    let r = drop (b + length c) m in
+    let k : length t ≡ b = length-take-le b m (omega arith) in
+    let front : take at (t ++ (c ++ r)) ≡ take at m = take-append-le at t (c ++ r) (omega arith) ∙ take-take at b m (omega arith) in
+    let back : drop (at + length a) (t ++ (c ++ r)) ≡ c ++ r = ap (λ (n : ℕ). drop n (t ++ (c ++ r))) (e ∙ sym k) ∙ drop-append-seam t (c ++ r) in
+    let sum : b + length c ≡ at + length (a ++ c) = omega (arith, length-append a c) in
+    rw (front, back, sum) (ap (λ (l : List ℕ). take at m ++ l) (sym (append-assoc a c (drop (at + length (a ++ c)) m))))
+
+-- what two writers leave, the second in front of the first; the place after both is the first one's
+pub written-before : {a b : List ℕ} {n m at p q r : ℕ} {x y z : List ℕ} → at + n ≡ p → p + m ≤ length x → Written b m p x y q → Written a n at y z r
+    → Written (a ++ b) (n + m) at x z q
+written-before {a} {b} {n} {m} {at} {p} {q} {r} {x} {y} {z} e h f g = record {
+  bytes = g .bytes ∙ ap (λ (l : List ℕ). splice l at a) (f .bytes) ∙ splice-before x at p a b (omega (arith, e, g .size)) (omega (arith, h, f .size));
+  size = omega (arith, length-append a b, f .size, g .size);
+  place = omega (arith, e, f .place);
+}
 
 -- a lent part that comes back is a splice
 pub put-splice : (a n : ℕ) (xs ys zs : List ℕ) → ys ≡ zs → length zs ≡ n → P.putMid a (a + n - a) xs ys ≡ splice xs a zs

@@ -13,7 +13,7 @@ use borrow.Author.Tests.{le-leb, lt-leb, lt-ltb, le-ltb, leb-true, leb-false, eq
 use Rattle.xdr.specs.declared.bytes.Span.{Span}
 use Rattle.xdr.specs.Bytes.{partOf}
 use Rattle.xdr.specs.Encode.{padBytes}
-use Rattle.xdr.specs.Decode.{Parsed, got, fault, andThen, fixedAt, fixed, value, number, upTo, padded, opaqueAt, opaqueUpTo}
+use Rattle.xdr.specs.Decode.{Parsed, got, fault, andThen, fixedAt, fixed, value, number, upTo, padded, opaqueAt, opaqueUpTo, numbers, arrayAt, arrayUpTo}
 use Rattle.xdr.proofs.EncodeLaws.{value-append}
 
 -- ---- n bytes: there, or missing from place p on
@@ -176,3 +176,25 @@ opaque-reads limit s at = by-length (upTo limit s at)
         ≡ andThen p (λ n m. andThen (andThen (fixedAt n s m) (λ d q. got (partOf s d) q)) (λ d q. padded (padBytes n) d s q))
     by-length (got n m) = by-bytes n (fixedAt n s m)
     by-length (fault q) = refl
+
+-- ---- arrays of numbers
+
+pub array-length : (limit : ℕ) (s : List ℕ) (at p : ℕ) → upTo limit s at ≡ fault p → arrayAt limit s at ≡ fault p
+unfolding arrayAt
+array-length limit s at p e = rw e
+
+pub array-numbers : (limit : ℕ) (s : List ℕ) (at n m : ℕ) → upTo limit s at ≡ got n m → arrayAt limit s at ≡ fixedAt (4 * n) s m
+unfolding arrayAt
+array-numbers limit s at n m e = rw e
+
+-- as numbers: a length, and the bytes of so many
+pub array-reads : (limit : ℕ) (s : List ℕ) (at : ℕ)
+    → arrayUpTo limit s at ≡ andThen (upTo limit s at) (λ n m. andThen (fixed (4 * n) s m) (λ bs q. got (numbers bs) q))
+unfolding arrayUpTo arrayAt fixed
+array-reads limit s at = go (upTo limit s at)
+  where
+    go : (p : Parsed ℕ)
+        → andThen (andThen (andThen p (λ n m. fixedAt (4 * n) s m)) (λ d q. got (partOf s d) q)) (λ bs q. got (numbers bs) q)
+        ≡ andThen p (λ n m. andThen (andThen (fixedAt (4 * n) s m) (λ d q. got (partOf s d) q)) (λ bs q. got (numbers bs) q))
+    go (got n m) = refl
+    go (fault q) = refl

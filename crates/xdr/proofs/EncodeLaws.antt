@@ -8,7 +8,7 @@ use native.Mathlib.Omega.{arith}
 use lib.Pow.{pow-add}
 use lib.Arith.{mod-mul}
 use lib.ListN.{length, length-append, length-replicate}
-use Rattle.xdr.specs.Encode.{be, u32, u64, bool, opaqueSize, opaque}
+use Rattle.xdr.specs.Encode.{be, u32, u64, bool, opaqueSize, opaque, concatMap, array}
 use Rattle.xdr.specs.Decode.{value}
 
 pub length-be : (k n : ℕ) → length (be k n) ≡ k
@@ -31,6 +31,14 @@ length-bool b = length-u32 (cond b 1 0)
 pub length-opaque : (d : List ℕ) → length (opaque d) ≡ opaqueSize (length d)
 unfolding opaque u32
 length-opaque d = simp (length-append, length-replicate, length-be) (omega arith)
+
+pub numbers-length : (ns : List ℕ) → length (concatMap u32 ns) ≡ 4 * length ns
+numbers-length [] = refl
+numbers-length (n ∷ ns) = rw (length-append (u32 n) (concatMap u32 ns), length-u32 n, numbers-length ns) (omega arith)
+
+pub length-array : (ns : List ℕ) → length (array ns) ≡ 4 + 4 * length ns
+unfolding array
+length-array ns = rw (length-append (u32 (length ns)) (concatMap u32 ns), length-u32 (length ns), numbers-length ns)
 
 pub opaque-fours : (d : List ℕ) → length (opaque d) % 4 ≡ 0
 opaque-fours d = rw (length-opaque d) (omega arith)

@@ -4,5 +4,6 @@ pub mod DecodeLaws
 pub mod RoundTrip
 pub mod Onward
 pub mod LayoutLaws
+pub mod ArrayLaws
 pub mod Bounds
 pub mod NumberLaws

@@ -1,5 +1,5 @@
 -- A reader goes on: it looks at no byte before its place, and stops at or after it.
-use Prim.Native.Nat.{ℕ, zero, suc, _+_, _-_, _≤_, max}
+use Prim.Native.Nat.{ℕ, zero, suc, _+_, _-_, _*_, _≤_, max}
 use mathlib.Core.Path.{_≡_, refl, sym, ap, _∙_}
 use mathlib.Core.Bool.{Bool, true, false, cond}
 use mathlib.Core.List.{List}
@@ -10,8 +10,8 @@ use lib.Seq.{drop-drop}
 use lib.Dec.{leb, ltb, eqb}
 use Rattle.xdr.specs.declared.bytes.Span.{Span}
 use Rattle.xdr.specs.Encode.{padBytes}
-use Rattle.xdr.specs.Decode.{Parsed, got, fault, stop, Reader, ret, andThen, _>>=_, fixedAt, fixed, value, number, upTo, padded, opaqueAt, opaqueUpTo}
-use Rattle.xdr.proofs.DecodeLaws.{fixed-is, byte-drop, opaque-reads}
+use Rattle.xdr.specs.Decode.{Parsed, got, fault, stop, Reader, ret, andThen, _>>=_, fixedAt, fixed, value, number, upTo, padded, opaqueAt, opaqueUpTo, numbers, arrayAt, arrayUpTo}
+use Rattle.xdr.proofs.DecodeLaws.{fixed-is, byte-drop, opaque-reads, array-reads}
 
 pub record Onward {A : Type 0} (r : Reader A) : Type 0 where
   pub forth : (s : List ℕ) (at : ℕ) → at ≤ stop (r s at)
@@ -116,4 +116,18 @@ opaque-onward limit =
     record {
       forth = λ s at. rw (opaque-reads limit s at) (h .forth s at);
       same = λ s t at l e. opaque-reads limit s at ∙ h .same s t at l e ∙ sym (opaque-reads limit t at);
+    }
+
+pub array-at-onward : (limit : ℕ) → Onward (arrayAt limit)
+unfolding arrayAt
+array-at-onward limit = then-onward (upTo limit) (λ n. fixedAt (4 * n)) (bounded-onward limit) (λ n. fixed-at-onward (4 * n))
+
+pub array-onward : (limit : ℕ) → Onward (arrayUpTo limit)
+array-onward limit =
+    let h : Onward (_>>=_ (upTo limit) (λ n. _>>=_ (fixed (4 * n)) (λ bs. ret (numbers bs))))
+    = then-onward (upTo limit) (λ n. _>>=_ (fixed (4 * n)) (λ bs. ret (numbers bs))) (bounded-onward limit)
+    (λ n. then-onward (fixed (4 * n)) (λ bs. ret (numbers bs)) (fixed-onward (4 * n)) (λ bs. ret-onward (numbers bs))) in
+    record {
+      forth = λ s at. rw (array-reads limit s at) (h .forth s at);
+      same = λ s t at l e. array-reads limit s at ∙ h .same s t at l e ∙ sym (array-reads limit t at);
     }

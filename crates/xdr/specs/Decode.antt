@@ -1,10 +1,10 @@
 -- Decoding (RFC 4506). A reader takes a list of bytes and a place in it. It gives a value and the place after it, or
 -- the place of the first fault met in reading order: the first missing byte, a pad byte that is not zero, or the
 -- first byte of a number that is out of range. A place past the end is itself the first missing byte.
-use Prim.Native.Nat.{ℕ, zero, suc, _+_, _*_, _^_, max}
+use Prim.Native.Nat.{ℕ, zero, suc, _+_, _*_, _/_, _^_, max}
 use mathlib.Core.Bool.{cond}
 use mathlib.Core.List.{List, [], _∷_}
-use lib.ListN.{length, getD}
+use lib.ListN.{length, getD, take, drop}
 use lib.Dec.{leb, ltb, eqb}
 use Rattle.xdr.specs.declared.bytes.Span.{Span}
 use Rattle.xdr.specs.Bytes.{partOf}
@@ -83,3 +83,24 @@ opaqueAt limit = do
 
 unfoldable pub opaqueUpTo : ℕ → Reader (List ℕ)
 opaqueUpTo limit = bytesOf (opaqueAt limit)
+
+-- ---- arrays of numbers of four bytes
+
+-- the first n numbers that bytes spell
+abbrev pub fours : ℕ → List ℕ → List ℕ
+fours zero bs = []
+fours (suc n) bs = value (take 4 bs) ∷ fours n (drop 4 bs)
+
+abbrev pub numbers : List ℕ → List ℕ
+numbers bs = fours (length bs / 4) bs
+
+-- where an array of at most `limit` numbers stands, behind its length
+unfoldable pub arrayAt : ℕ → Reader Span
+arrayAt limit = do
+  n ← upTo limit
+  fixedAt (4 * n)
+
+unfoldable pub arrayUpTo : ℕ → Reader (List ℕ)
+arrayUpTo limit = do
+  bs ← bytesOf (arrayAt limit)
+  ret (numbers bs)

@@ -1,5 +1,5 @@
 -- Encodings (RFC 4506): numbers are big-endian (4.2, 4.5), a boolean is a number (4.4), opaque data has its length
--- in front and is padded with zeros to a multiple of four bytes (4.10).
+-- in front and is padded with zeros to a multiple of four bytes (4.10), an array has its length in front (4.13).
 use Prim.Native.Nat.{ℕ, zero, suc, _+_, _-_, _/_, _%_, _^_}
 use mathlib.Core.Bool.{Bool, cond}
 use mathlib.Core.List.{List, [], _∷_, _++_}
@@ -34,3 +34,7 @@ opaque d = u32 (length d) ++ (d ++ replicate (padBytes (length d)) 0)
 abbrev pub concatMap : {A : Type 0} → (A → List ℕ) → List A → List ℕ
 concatMap f [] = []
 concatMap f (x ∷ xs) = f x ++ concatMap f xs
+
+-- an array of numbers of four bytes: how many they are, then one after the other
+unfoldable pub array : List ℕ → List ℕ
+array ns = u32 (length ns) ++ concatMap u32 ns

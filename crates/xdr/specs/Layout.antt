@@ -4,8 +4,8 @@ use Prim.Native.Nat.{ℕ, _-_, _^_}
 use mathlib.Core.Bool.{Bool}
 use mathlib.Core.List.{List, _++_}
 use lib.Dec.{eqb}
-use Rattle.xdr.specs.Encode.{u32, u64, bool, opaque}
-use Rattle.xdr.specs.Decode.{Reader, ret, _>>=_, number, upTo, fixed, opaqueUpTo}
+use Rattle.xdr.specs.Encode.{u32, u64, bool, opaque, array}
+use Rattle.xdr.specs.Decode.{Reader, ret, _>>=_, number, upTo, fixed, opaqueUpTo, arrayUpTo}
 
 pub record Layout (A : Type 0) : Type 0 where
   pub write : A → List ℕ
@@ -36,6 +36,10 @@ opaqueData limit = record { write = opaque; read = opaqueUpTo limit }
 -- XDR's own bound on opaque data (RFC 4506, 4.10)
 abbrev pub anyLength : ℕ
 anyLength = 2 ^ 32 - 1
+
+-- an array of at most `limit` numbers of 32 bits
+abbrev pub uints : ℕ → Layout (List ℕ)
+uints limit = record { write = array; read = arrayUpTo limit }
 
 infixr 40 _then_
 -- one field after another

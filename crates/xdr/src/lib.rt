@@ -1,4 +1,4 @@
-// XDR (RFC 4506): numbers, booleans and opaque data, read from and written to bytes.
+// XDR (RFC 4506): numbers, booleans, opaque data and arrays of numbers, read from and written to bytes.
 mod bytes;
 mod read;
 mod write;
@@ -12,6 +12,7 @@ pub use read::Cursor;
 pub use read::Long;
 pub use read::Word;
 pub use write::padding;
+pub use write::put_array;
 pub use write::put_bool;
 pub use write::put_bytes;
 pub use write::put_opaque;

@@ -2,7 +2,7 @@
 // or the place of the first fault met in reading order.
 ghost use mathlib.Core.Path.{_≡_};
 ghost use Prim.Native.Nat.{_<_};
-ghost use Rattle.xdr.specs.Decode.{number, upTo, fixedAt, opaqueAt, padded, stop};
+ghost use Rattle.xdr.specs.Decode.{number, upTo, fixedAt, opaqueAt, arrayAt, padded, stop};
 ghost use Rattle.xdr.specs.Answers.{ofWord, ofLong, ofBytes};
 use crate::bytes::Span;
 use crate::write::padding;
@@ -179,5 +179,16 @@ impl Cursor {
             return b;
         };
         c2.padded(s, padding(len), d)
+    }
+
+    // An array of at most `limit` numbers of four bytes: its length, then the bytes of all.
+    pub fn array(self, s: &[u8], limit: u32) -> Bytes
+        ensures { λ r. ⌜ ofBytes r ≡ arrayAt limit (now (s .entry)) (self .at) ⌝ }
+    {
+        let w = self.up_to(s, limit);
+        let Word::Value(n, c) = w else {
+            return Bytes::Fault(w.place());
+        };
+        c.fixed(s, 4 * (n as usize))
     }
 }

@@ -1,9 +1,9 @@
 // Writers. Each stores an encoding at a place of a slice, leaves every other byte, and answers the place after it.
 ghost use mathlib.Core.Path.{_≡_};
-ghost use Prim.Native.Nat.{_+_, _^_, _<_, _≤_};
+ghost use Prim.Native.Nat.{_+_, _*_, _^_, _<_, _≤_};
 ghost use lib.ListN.{length, replicate};
 ghost use Rattle.xdr.specs.Bytes.{Written};
-ghost use Rattle.xdr.specs.Encode.{u32, u64, bool, opaque, opaqueSize, padBytes};
+ghost use Rattle.xdr.specs.Encode.{u32, u64, bool, opaque, opaqueSize, padBytes, concatMap, array};
 use crate::bytes::copy;
 use crate::bytes::zero;
 
@@ -72,4 +72,27 @@ pub fn put_opaque(out: &mut [u8], at: usize, d: &[u8]) -> usize
     let from = put_u32(out, at, n as u32);
     let pad = put_bytes(out, from, d);
     put_zeros(out, pad, padding(n))
+}
+
+// Numbers, each in four bytes.
+fn put_numbers(out: &mut [u8], at: usize, ns: &[u32]) -> usize
+    requires { ⌜ at + 4 * length (now ns) ≤ length (now out) ⌝ }
+    ensures { λ r. ⌜ Written (concatMap u32 (now (ns .entry))) (4 * length (now (ns .entry))) at (now (out .entry)) (now (out .exit)) r ⌝ }
+{
+    let mut next = at;
+    let mut i = 0;
+    while i < ns.len() {
+        next = put_u32(out, next, ns[i]);
+        i += 1;
+    }
+    next
+}
+
+// An array of numbers: its length, then the numbers.
+pub fn put_array(out: &mut [u8], at: usize, ns: &[u32]) -> usize
+    requires { ⌜ (length (now ns) < 2 ^ 32) × (at + (4 + 4 * length (now ns)) ≤ length (now out)) ⌝ }
+    ensures { λ r. ⌜ Written (array (now (ns .entry))) (4 + 4 * length (now (ns .entry))) at (now (out .entry)) (now (out .exit)) r ⌝ }
+{
+    let first = put_u32(out, at, ns.len() as u32);
+    put_numbers(out, first, ns)
 }

@@ -176,6 +176,24 @@ fn show_pads() {
     say_bytes(missing, Cursor::new(0).opaque(missing, 1));
 }
 
+// An array of three numbers at its length, at a shorter limit and cut in its length and in its last number; and one of none.
+fn show_arrays() {
+    let mut out = [0xffu8; 20];
+    let ns = [17, 8192, 24576];
+    let p = xdr::put_array(&mut out, 0, &ns);
+    xdr::put_array(&mut out, p, &ns[..0]);
+    say_hex(&out);
+    say(b"\n");
+    let s: &[u8] = &out;
+    say_bytes(s, Cursor::new(0).array(s, 3));
+    say_bytes(s, Cursor::new(0).array(s, 2));
+    say_bytes(s, Cursor::new(16).array(s, 0));
+    let short = front(s, 3);
+    say_bytes(short, Cursor::new(0).array(short, 3));
+    let cut = front(s, 15);
+    say_bytes(cut, Cursor::new(0).array(cut, 3));
+}
+
 fn main() {
     let mut file = [0u8; 48];
     put_file(&mut file);
@@ -186,4 +204,5 @@ fn main() {
     show_lengths();
     show_numbers();
     show_pads();
+    show_arrays();
 }

@@ -14,6 +14,8 @@ pub const LARGEST: Geometry = geometry(64, 1024, 65_536, 4096);
 
 /// The slots of a CLONE.
 const CLONED: u64 = 64;
+/// The bitmap of all attributes that there are.
+const ATTRIBUTES: [u32; 3] = [0x11, 0x2000, 0x6000];
 /// The bytes of a WRITE.
 const WRITTEN: u64 = 100;
 
@@ -32,6 +34,7 @@ pub const fn geometry(files: u64, slots: u64, blocks: u64, block_size: u64) -> G
 pub enum Kind {
     Write,
     ReadPlus,
+    GetAttr,
     Allocate,
     Clone,
     Soundness,
@@ -39,9 +42,10 @@ pub enum Kind {
 }
 
 impl Kind {
-    pub const ALL: [Kind; 6] = [
+    pub const ALL: [Kind; 7] = [
         Kind::Write,
         Kind::ReadPlus,
+        Kind::GetAttr,
         Kind::Allocate,
         Kind::Clone,
         Kind::Soundness,
@@ -52,6 +56,7 @@ impl Kind {
         match self {
             Kind::Write => "WRITE of 100 bytes",
             Kind::ReadPlus => "READ_PLUS, sparse",
+            Kind::GetAttr => "GETATTR of all five",
             Kind::Allocate => "ALLOCATE",
             Kind::Clone => "CLONE of 64 written slots",
             Kind::Soundness => "soundness",
@@ -85,6 +90,7 @@ impl Case {
         let work = match kind {
             Kind::Write => writes(&geometry, calls),
             Kind::ReadPlus => reads(&geometry, calls),
+            Kind::GetAttr => compounds(&geometry, calls, |_| wire::getattr(&ATTRIBUTES)),
             Kind::Allocate => allocates(&geometry, calls),
             Kind::Clone => clones(&geometry, calls),
             Kind::Soundness => Work::Soundness,

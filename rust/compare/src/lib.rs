@@ -3,11 +3,12 @@
 //! that are shown the number, the place and the bytes.
 //!
 //! `generator` makes the calls of a seed, `pair` runs them side by side, `shrink` makes a list with
-//! a difference short, `seed` puts these together, `tally` counts what was met, and `program` runs
-//! many seeds.
+//! a difference short, `seed` puts these together, `tally` counts what was met, with `slots` and
+//! `attributes`, and `program` runs many seeds.
 //!
 //! `frames` makes the lines of the programs, and `recording` compares programs that replay them.
 
+mod attributes;
 mod difference;
 mod frames;
 mod generator;
@@ -20,6 +21,7 @@ pub mod recording;
 mod seed;
 mod server;
 mod shrink;
+mod slots;
 mod tally;
 pub mod wire;
 

@@ -58,11 +58,16 @@ fn run_seed(
     let mut pair = Pair::new(list.geometry, servers)?;
     let mut run = |pair: &mut Pair, step: Step| {
         list.steps.push(step.clone());
-        let words = pair.store().words.clone();
+        let before = pair.store().words.clone();
         let observed = pair.step(&step)?;
-        tally.add(&observed, pair.outcome(&observed));
+        let outcome = pair.outcome(&observed);
+        let words = [&before[..], &pair.store().words];
+        tally.add(&observed, outcome.as_ref());
         if observed.served.is_some() {
-            tally.add_slots(&pair.geometry, &words, &pair.store().words);
+            tally.add_slots(&pair.geometry, words);
+        }
+        if let (Some(outcome), None) = (&outcome, &observed.on_copy) {
+            tally.add_attributes(&pair.geometry, words, outcome);
         }
         Ok(observed.soundness)
     };
@@ -75,6 +80,9 @@ fn run_seed(
             run(&mut pair, Step::Show(view))?;
         }
     }
+    let by_turns = Step::Serve(generator.call_by_turns(pair.store()));
+    calls.push(by_turns.clone());
+    run(&mut pair, by_turns)?;
     let damage = Step::Damage(generator.damage(pair.store()));
     if run(&mut pair, damage)? != 0 {
         calls.truncate(CALLS_IF_UNSOUND);

@@ -1,12 +1,14 @@
 //! How often each status, each refusal and each change of a slot was met.
 
-use std::collections::{BTreeMap, HashMap};
+use std::collections::BTreeMap;
 use std::fmt;
 
 use second::Geometry;
 
+use crate::attributes::Attributes;
 use crate::observed::Observed;
 use crate::server::Shown;
+use crate::slots::{kinds, SLOTS};
 use crate::wire::{self, Outcome};
 
 /// The statuses of operations.
@@ -44,6 +46,7 @@ const NUMBERS: [(&str, &[u32]); 6] = [
 /// The statuses that document 01 allows an operation.
 fn allowed(number: u32) -> &'static [u32] {
     match number {
+        wire::GETATTR => &[0, 10020, 10036],
         wire::GETFH | wire::SAVEFH | wire::RESTOREFH => &[0, 10020],
         wire::PUTFH => &[0, 70, 10001, 10036],
         wire::READ | wire::READ_PLUS => &[0, 10020, 10025, 10036],
@@ -62,12 +65,6 @@ fn numbers() -> impl Iterator<Item = u32> {
     (3..=71).chain([wire::ILLEGAL])
 }
 
-/// What a slot holds: nothing, a block of its own, one that another file's slot holds too, one that
-/// another slot of its file holds too; each without and with its reserve.
-const SLOTS: [&str; 8] = [
-    "hole", "hole+r", "own", "own+r", "shared", "shared+r", "self", "self+r",
-];
-
 #[derive(Default)]
 pub struct Tally {
     pub lists: u64,
@@ -78,10 +75,11 @@ pub struct Tally {
     without_result: BTreeMap<u32, u64>,
     answers: BTreeMap<(&'static str, u32), u64>,
     slots: [[u64; SLOTS.len()]; SLOTS.len()],
+    attributes: Attributes,
 }
 
 impl Tally {
-    pub(crate) fn add(&mut self, observed: &Observed, outcome: Option<Outcome>) {
+    pub(crate) fn add(&mut self, observed: &Observed, outcome: Option<&Outcome>) {
         self.add_answer("soundness", observed.soundness);
         self.add_answer("count_blocks", observed.counted.number);
         if let Some(on_copy) = &observed.on_copy {
@@ -111,27 +109,38 @@ impl Tally {
         *self.answers.entry((call, number)).or_default() += 1;
     }
 
-    fn add_outcome(&mut self, outcome: Outcome) {
+    fn add_outcome(&mut self, outcome: &Outcome) {
         self.operations += outcome.results.len() as u64;
         if outcome.results.is_empty() {
             *self.without_result.entry(outcome.status).or_default() += 1;
         }
-        for result in outcome.results {
-            *self.results.entry(result).or_default() += 1;
+        for result in &outcome.results {
+            let answer = (result.number, result.status);
+            *self.results.entry(answer).or_default() += 1;
         }
     }
 
     /// Counts what the changed slots held before a step and hold after it.
-    pub(crate) fn add_slots(&mut self, geometry: &Geometry, before: &[u32], after: &[u32]) {
-        if before == after {
+    pub(crate) fn add_slots(&mut self, geometry: &Geometry, words: [&[u32]; 2]) {
+        if words[0] == words[1] {
             return;
         }
-        let kinds = [before, after].map(|words| kinds(geometry, words));
+        let kinds = words.map(|words| kinds(geometry, words));
         for (&from, &to) in kinds[0].iter().zip(&kinds[1]) {
             if from != to {
                 self.slots[from][to] += 1;
             }
         }
+    }
+
+    /// Counts what GETATTR answered, with the slot words before and after the call.
+    pub(crate) fn add_attributes(
+        &mut self,
+        geometry: &Geometry,
+        words: [&[u32]; 2],
+        outcome: &Outcome,
+    ) {
+        self.attributes.add(geometry, words, outcome);
     }
 
     fn results(&self, number: u32, status: u32) -> u64 {
@@ -161,6 +170,8 @@ impl Tally {
             .flat_map(|(call, numbers)| numbers.iter().map(move |&number| (call, number)))
             .filter(|&(call, number)| self.answers(call, number) == 0)
             .map(|(call, number)| format!("{call} {number}"));
+        let attributes = self.attributes.missing();
+        let answers = answers.chain(attributes);
         results.chain(without).chain(answers).collect()
     }
 
@@ -176,29 +187,6 @@ impl Tally {
             .map(|status| format!("no result with {status}"));
         results.chain(without).collect()
     }
-}
-
-/// For each slot its place in `SLOTS`.
-fn kinds(geometry: &Geometry, words: &[u32]) -> Vec<usize> {
-    let slots = geometry.slots as usize;
-    let mut holders = HashMap::<u32, u32>::new();
-    let mut holders_in_file = HashMap::<(usize, u32), u32>::new();
-    for (index, word) in words.iter().enumerate() {
-        *holders.entry(word / 2).or_default() += 1;
-        let here = (index / slots, word / 2);
-        *holders_in_file.entry(here).or_default() += 1;
-    }
-    let kind = |(index, &word): (usize, &u32)| {
-        let block = word / 2;
-        let held = match (holders[&block], holders_in_file[&(index / slots, block)]) {
-            _ if block == 0 => 0,
-            (1, _) => 1,
-            (_, 1) => 2,
-            _ => 3,
-        };
-        2 * held + (word % 2) as usize
-    };
-    words.iter().enumerate().map(kind).collect()
 }
 
 impl fmt::Display for Tally {
@@ -217,7 +205,7 @@ impl fmt::Display for Tally {
             }
             writeln!(f)?;
         }
-        writeln!(f)?;
+        writeln!(f, "\n{}", self.attributes)?;
         self.show_slots(f)
     }
 }

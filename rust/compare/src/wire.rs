@@ -7,6 +7,7 @@ pub const ZEROS: Stateid = [0; 16];
 /// The stateid that passes where bytes are only read.
 pub const ONES: Stateid = [255; 16];
 
+pub const GETATTR: u32 = 9;
 pub const GETFH: u32 = 10;
 pub const PUTFH: u32 = 22;
 pub const READ: u32 = 25;
@@ -23,8 +24,12 @@ pub const CLONE: u32 = 71;
 /// The result number of an operation that has none of its own.
 pub const ILLEGAL: u32 = 10044;
 
+/// The operations that change the store.
+pub const EDITS: [u32; 5] = [WRITE, ALLOCATE, COPY, DEALLOCATE, CLONE];
+
 /// The numbers with a name here.
-pub const NAMES: [(u32, &str); 14] = [
+pub const NAMES: [(u32, &str); 15] = [
+    (GETATTR, "GETATTR"),
     (GETFH, "GETFH"),
     (PUTFH, "PUTFH"),
     (READ, "READ"),
@@ -62,6 +67,18 @@ pub fn putfh(handle: &[u8]) -> Vec<u8> {
 
 pub fn putfh_file(file: usize) -> Vec<u8> {
     putfh(&(file as u32).to_be_bytes())
+}
+
+/// GETATTR of the attributes in a bitmap.
+pub fn getattr(bitmap: &[u32]) -> Vec<u8> {
+    let numbers = [&[GETATTR, bitmap.len() as u32], bitmap].concat();
+    numbers.into_iter().flat_map(u32::to_be_bytes).collect()
+}
+
+/// Whether a bitmap has that attribute's bit.
+pub fn has_bit(bitmap: &[u32], attribute: u32) -> bool {
+    let word = bitmap.get(attribute as usize / 32);
+    word.is_some_and(|word| word >> (attribute % 32) & 1 == 1)
 }
 
 /// READ, READ_PLUS, or SEEK with what to look for as its count.
@@ -124,11 +141,26 @@ pub fn request(operations: &[Vec<u8>]) -> Vec<u8> {
     [header.concat(), operations.concat()].concat()
 }
 
-/// A reply's status, and each result's number and status.
+/// A reply's status and its results.
 #[derive(Debug, PartialEq, Eq)]
 pub struct Outcome {
     pub status: u32,
-    pub results: Vec<(u32, u32)>,
+    pub results: Vec<Answered>,
+}
+
+#[derive(Debug, PartialEq, Eq)]
+pub struct Answered {
+    pub number: u32,
+    pub status: u32,
+    pub told: Told,
+}
+
+/// What is kept of a result's body: GETFH's file, GETATTR's bitmap.
+#[derive(Debug, PartialEq, Eq)]
+pub enum Told {
+    Nothing,
+    File(u32),
+    Attributes(Vec<u32>),
 }
 
 /// Takes a whole reply on_copy; nothing where it isn't laid out as one.
@@ -143,10 +175,15 @@ pub fn outcome(reply: &[u8]) -> Option<Outcome> {
 
 struct Walk<'a>(&'a [u8]);
 
-impl Walk<'_> {
+impl<'a> Walk<'a> {
+    fn take(&mut self, length: usize) -> Option<&'a [u8]> {
+        let (bytes, rest) = self.0.split_at_checked(length)?;
+        self.0 = rest;
+        Some(bytes)
+    }
+
     fn skip(&mut self, length: usize) -> Option<()> {
-        self.0 = self.0.get(length..)?;
-        Some(())
+        self.take(length).map(|_| ())
     }
 
     fn int(&mut self) -> Option<u32> {
@@ -160,17 +197,39 @@ impl Walk<'_> {
         self.skip(length.next_multiple_of(4))
     }
 
-    fn result(&mut self) -> Option<(u32, u32)> {
+    fn result(&mut self) -> Option<Answered> {
         let (number, status) = (self.int()?, self.int()?);
-        if status == 0 {
-            self.body(number)?;
-        }
-        Some((number, status))
+        let told = match (status, number) {
+            (0, GETFH) => self.file()?,
+            (0, GETATTR) => self.attributes()?,
+            (0, _) => self.body(number).map(|()| Told::Nothing)?,
+            _ => Told::Nothing,
+        };
+        Some(Answered {
+            number,
+            status,
+            told,
+        })
+    }
+
+    /// A handle of four bytes.
+    fn file(&mut self) -> Option<Told> {
+        let length = self.int()?;
+        let file = self.int()?;
+        (length == 4).then_some(Told::File(file))
+    }
+
+    /// A bitmap, and the values as one opaque.
+    fn attributes(&mut self) -> Option<Told> {
+        let count = self.int()? as usize;
+        let words = self.take(count.checked_mul(4)?)?.chunks_exact(4);
+        let words = words.map(|word| u32::from_be_bytes(word.try_into().expect("four bytes")));
+        self.opaque()?;
+        Some(Told::Attributes(words.collect()))
     }
 
     fn body(&mut self, number: u32) -> Option<()> {
         match number {
-            GETFH => self.opaque(),
             READ => {
                 self.int()?;
                 self.opaque()

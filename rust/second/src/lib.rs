@@ -1,10 +1,11 @@
 //! A second program for document 01: the box in plain Rust, written from the text alone.
 //!
-//! `xdr` reads and writes the wire forms, `operation` decodes the twelve operations, `store` and
-//! `edit` hold the rules of the store, `reading` answers READ, READ_PLUS and SEEK, `runner` runs the
-//! operations, `compound` a whole request, `frames` is the program's line, and `replay` runs a
-//! recording of lines again.
+//! `xdr` reads and writes the wire forms, `operation` decodes the operations, `store` and `edit`
+//! hold the rules of the store, `reading` answers READ, READ_PLUS and SEEK, `attributes` GETATTR,
+//! `runner` runs the operations, `compound` a whole request, `frames` is the program's line, and
+//! `replay` runs a recording of lines again.
 
+mod attributes;
 mod compound;
 mod edit;
 mod frames;

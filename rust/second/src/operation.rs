@@ -1,4 +1,4 @@
-//! The twelve operations and their arguments, by RFC 5662 and RFC 7862.
+//! The operations and their arguments, by RFC 5662 and RFC 7862.
 
 use crate::status::Status;
 use crate::xdr::{BadXdr, Reader};
@@ -8,10 +8,14 @@ pub(crate) type Stateid = [u8; 16];
 /// The longest handle that decodes.
 const HANDLE_MAX: u32 = 128;
 
+/// The most words of a bitmap that decodes.
+const BITMAP_MAX: u32 = 4;
+
 /// The result number of an operation that has none of its own.
 const ILLEGAL: u32 = 10044;
 
 mod number {
+    pub const GETATTR: u32 = 9;
     pub const GETFH: u32 = 10;
     pub const PUTFH: u32 = 22;
     pub const READ: u32 = 25;
@@ -31,6 +35,9 @@ mod number {
 }
 
 pub(crate) enum Operation<'a> {
+    GetAttr {
+        asked: Vec<u32>,
+    },
     GetFh,
     PutFh {
         handle: &'a [u8],
@@ -103,6 +110,9 @@ pub(crate) fn decode<'a>(reader: &mut Reader<'a>) -> Result<(u32, Operation<'a>)
 
 fn arguments<'a>(number: u32, reader: &mut Reader<'a>) -> Result<Operation<'a>, Status> {
     Ok(match number {
+        number::GETATTR => Operation::GetAttr {
+            asked: reader.words(BITMAP_MAX)?,
+        },
         number::GETFH => Operation::GetFh,
         number::PUTFH => Operation::PutFh {
             handle: reader.opaque(HANDLE_MAX)?,

@@ -2,6 +2,7 @@
 
 use std::ops::Range;
 
+use crate::attributes::Gauge;
 use crate::edit::Draft;
 use crate::geometry::Geometry;
 use crate::operation::{Count, Length, Operation, Stateid, Transfer};
@@ -42,6 +43,7 @@ impl<'a> Runner<'a> {
     pub fn run(&mut self, operation: Operation) -> Result<Vec<u8>, Status> {
         let mut body = Writer::default();
         match operation {
+            Operation::GetAttr { asked } => self.getattr(&asked, &mut body)?,
             Operation::GetFh => body.opaque(&(self.current()? as u32).to_be_bytes()),
             Operation::PutFh { handle } => self.current = Some(self.file_named(handle)?),
             Operation::SaveFh => self.saved = Some(self.current()?),
@@ -81,6 +83,16 @@ impl<'a> Runner<'a> {
             return Err(Status::Stale);
         }
         Ok(file as usize)
+    }
+
+    fn getattr(&self, asked: &[u32], body: &mut Writer) -> Result<(), Status> {
+        let gauge = Gauge {
+            geometry: self.geometry,
+            store: self.store,
+            file: self.current()?,
+        };
+        gauge.answer(asked, body);
+        Ok(())
     }
 
     fn view(&self, file: usize) -> View<'_> {

@@ -35,6 +35,11 @@ impl Slot {
         let held = self.block.map_or(0, |block| block as u32 + 1);
         2 * held + u32::from(self.reserved)
     }
+
+    /// Whether it is reserved and has no block of its own; `holders` counts those of each block.
+    pub fn is_owed(self, holders: &[u32]) -> bool {
+        self.reserved && self.block.is_none_or(|block| holders[block] > 1)
+    }
 }
 
 impl Store {
@@ -80,9 +85,7 @@ pub(crate) fn holders(slots: impl Iterator<Item = Slot>, blocks: u64) -> Vec<u32
 pub(crate) fn tally(slots: impl Iterator<Item = Slot> + Clone, blocks: u64) -> (u64, u64) {
     let counts = holders(slots.clone(), blocks);
     let used = counts.iter().filter(|&&count| count > 0).count();
-    let owed = slots
-        .filter(|slot| slot.reserved && slot.block.is_none_or(|block| counts[block] > 1))
-        .count();
+    let owed = slots.filter(|slot| slot.is_owed(&counts)).count();
     (used as u64, owed as u64)
 }
 

@@ -50,6 +50,12 @@ impl<'a> Reader<'a> {
         self.up_to(1).map(|value| value == 1)
     }
 
+    /// Numbers with their count before them, at most `most`.
+    pub fn words(&mut self, most: u32) -> Result<Vec<u32>, BadXdr> {
+        let count = self.up_to(most)?;
+        (0..count).map(|_| self.u32()).collect()
+    }
+
     /// Bytes with their length before them and zeros after them, at most `longest`.
     pub fn opaque(&mut self, longest: u32) -> Result<&'a [u8], BadXdr> {
         let length = self.up_to(longest)? as usize;
@@ -81,6 +87,12 @@ impl Writer {
 
     pub fn boolean(&mut self, value: bool) {
         self.u32(u32::from(value));
+    }
+
+    /// Numbers with their count before them.
+    pub fn words(&mut self, words: &[u32]) {
+        self.u32(words.len() as u32);
+        words.iter().for_each(|&word| self.u32(word));
     }
 
     pub fn opaque(&mut self, bytes: &[u8]) {

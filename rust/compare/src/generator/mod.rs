@@ -1,6 +1,7 @@
 //! Makes the calls of a seed, each with the store before it in view.
 
 mod aims;
+mod attributes;
 mod operations;
 mod scenarios;
 mod views;
@@ -11,6 +12,7 @@ use second::{Geometry, Store, REPLY_MIN};
 use crate::list::{Call, Damage, Edit, Lent, Request, View};
 use crate::pair::REPLY_MAX;
 use crate::random::Random;
+use crate::wire;
 
 /// The geometry with 256 MiB of memory has one seed in so many, the one with 32 MiB another.
 const LARGEST_EVERY: u64 = 100_000;
@@ -26,6 +28,8 @@ pub struct Generator {
     random: Random,
     /// For the slots to show, so that the calls of a seed don't depend on them.
     views: Random,
+    /// Which case of GETATTR comes, by turns.
+    turn: u64,
 }
 
 impl Generator {
@@ -40,6 +44,7 @@ impl Generator {
             geometry,
             random,
             views: Random::new(!seed),
+            turn: seed,
         }
     }
 
@@ -50,6 +55,7 @@ impl Generator {
             geometry,
             random,
             views: Random::new(!seed),
+            turn: seed,
         }
     }
 
@@ -70,6 +76,15 @@ impl Generator {
             84..=91 => maker.unusual_header(),
             _ => maker.wrong_arguments(),
         }
+    }
+
+    /// A call with one case of GETATTR, the next one in the next seed.
+    pub fn call_by_turns(&mut self, store: &Store) -> Call {
+        let cases = attributes::cases();
+        let case = cases[(self.turn % cases.len() as u64) as usize].clone();
+        let mut maker = self.maker(store);
+        let file = maker.source();
+        maker.call_of(vec![wire::putfh_file(file), wire::int(wire::GETFH), case])
     }
 
     /// The bytes of a request, damaged now and then.
@@ -157,7 +172,12 @@ struct Maker<'a> {
 impl Maker<'_> {
     /// A compound with nothing wrong but what its operations have.
     fn usual(&mut self) -> Call {
-        let mut request = Request::of(self.operations());
+        let operations = self.operations();
+        self.call_of(operations)
+    }
+
+    fn call_of(&mut self, operations: Vec<Vec<u8>>) -> Call {
+        let mut request = Request::of(operations);
         request.tag = self.tag();
         Call {
             request,

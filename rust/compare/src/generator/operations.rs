@@ -32,12 +32,17 @@ impl Maker<'_> {
         self.random.pick(&[small, large, 129, 1 << 31])
     }
 
-    /// READ, READ_PLUS or SEEK.
+    /// GETATTR, READ, READ_PLUS or SEEK.
     pub fn look(&mut self, file: usize) -> Vec<u8> {
-        let number = self
-            .random
-            .pick(&[wire::READ, wire::READ_PLUS, wire::READ_PLUS, wire::SEEK]);
+        let number = self.random.pick(&[
+            wire::GETATTR,
+            wire::READ,
+            wire::READ_PLUS,
+            wire::READ_PLUS,
+            wire::SEEK,
+        ]);
         let count = match number {
+            wire::GETATTR => return self.getattr(),
             wire::SEEK => self.sought(),
             _ => self.count(),
         };
@@ -184,12 +189,13 @@ impl Maker<'_> {
     /// An operation that isn't served, or whose arguments don't decode.
     pub fn malformed(&mut self) -> Vec<u8> {
         let file = self.file();
-        match self.random.below(10) {
+        match self.random.below(11) {
             0 => wire::int(wire::SEQUENCE),
             1..=2 => wire::int(self.random.within(3..=71) as u32),
             3 => wire::int(self.random.pick(&[0, 1, 2, 72, 73, 256, 10044, u32::MAX])),
             4 => self.bad_handle(),
             5..=6 => self.malformed_write(file),
+            7 => self.malformed_getattr(),
             _ => self.truncated(file),
         }
     }
@@ -214,10 +220,11 @@ impl Maker<'_> {
 
     /// An operation without some of its last bytes.
     fn truncated(&mut self, file: usize) -> Vec<u8> {
-        let mut operation = match self.random.below(5) {
+        let mut operation = match self.random.below(6) {
             0 => self.copy(file, file),
             1 => self.clone(file, file),
             2 => self.look(file),
+            3 => self.getattr(),
             _ => self.edit(file),
         };
         let cut = self.random.within(1..=operation.len().min(40) as u64);
@@ -227,7 +234,7 @@ impl Maker<'_> {
 }
 
 /// The operation with another number at that place.
-fn with_number(mut operation: Vec<u8>, at: usize, number: u32) -> Vec<u8> {
+pub fn with_number(mut operation: Vec<u8>, at: usize, number: u32) -> Vec<u8> {
     operation[at..at + 4].copy_from_slice(&number.to_be_bytes());
     operation
 }

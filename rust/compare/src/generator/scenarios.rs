@@ -7,7 +7,7 @@ use crate::wire;
 
 impl Maker<'_> {
     pub fn scenario(&mut self) -> Vec<Vec<u8>> {
-        match self.random.below(20) {
+        match self.random.below(22) {
             0..=4 => self.edits(),
             5..=8 => self.transfers(),
             9 => self.fill_pool(),
@@ -17,6 +17,8 @@ impl Maker<'_> {
             14..=15 => self.share_edges(),
             16 => self.looks(),
             17 => self.longest_reply(),
+            18 => self.gauges(),
+            19 => self.gauge_clones(),
             _ => self.mixture(),
         }
     }
@@ -155,6 +157,49 @@ impl Maker<'_> {
             self.deallocate(file),
             self.look(file),
         ]
+    }
+
+    /// The attributes of some files.
+    fn gauges(&mut self) -> Vec<Vec<u8>> {
+        let mut operations = Vec::new();
+        for _ in 0..self.random.within(1..=4) {
+            let file = self.source();
+            operations.push(self.putfh(file));
+            operations.extend(self.gauge());
+        }
+        operations
+    }
+
+    /// GETATTR behind GETFH, so that the reply tells the file.
+    fn gauge(&mut self) -> [Vec<u8>; 2] {
+        [wire::int(wire::GETFH), self.getattr()]
+    }
+
+    /// A slot cloned inside its file and to another file, reserved before or not; then the
+    /// attributes of both.
+    fn gauge_clones(&mut self) -> Vec<Vec<u8>> {
+        let b = self.block_size();
+        let file = self.file();
+        let other = self.other(file);
+        let [first, second, third] = [(); 3].map(|()| self.slot() * b);
+        let slots = self.random.within(1..=3);
+        let before = match self.random.below(3) {
+            0 => self.write_at(second, b),
+            _ => self.allocate_at(first, slots * b),
+        };
+        let mut operations = vec![
+            self.putfh(file),
+            before,
+            self.write_at(first, b),
+            wire::int(wire::SAVEFH),
+            self.transfer([first, second], b).clone_op(),
+            self.putfh(other),
+            self.transfer([first, third], b).clone_op(),
+        ];
+        operations.extend(self.gauge());
+        operations.push(wire::int(wire::RESTOREFH));
+        operations.extend(self.gauge());
+        operations
     }
 
     /// As many and as long reads as a compound has.

@@ -40,6 +40,16 @@ pub fn putfh(file: u32) -> Vec<u8> {
     [int(22), opaque(&int(file))].concat()
 }
 
+/// Numbers with their count before them.
+pub fn words(words: &[u32]) -> Vec<u8> {
+    let numbers: Vec<Vec<u8>> = words.iter().map(|&word| int(word)).collect();
+    [int(words.len() as u32), numbers.concat()].concat()
+}
+
+pub fn getattr(asked: &[u32]) -> Vec<u8> {
+    [int(9), words(asked)].concat()
+}
+
 pub fn getfh() -> Vec<u8> {
     int(10)
 }
@@ -182,6 +192,11 @@ pub fn reply_with(tag: &[u8], status: u32, results: &[Vec<u8>]) -> Vec<u8> {
 
 pub fn reply(status: u32, results: &[Vec<u8>]) -> Vec<u8> {
     reply_with(b"", status, results)
+}
+
+/// The body of GETATTR's OK.
+pub fn attributes_body(bitmap: &[u32], values: &[Vec<u8>]) -> Vec<u8> {
+    [words(bitmap), opaque(&values.concat())].concat()
 }
 
 /// The body of READ's OK.

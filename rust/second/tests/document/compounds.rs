@@ -103,6 +103,7 @@ fn bytes_after_the_last_operation_are_not_read() {
 /// Every operation, whole.
 fn samples() -> Vec<Vec<u8>> {
     vec![
+        getattr(&[0x11, 0x2000, 0x6000]),
         getfh(),
         putfh(1),
         read(0, 1),

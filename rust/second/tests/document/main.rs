@@ -1,5 +1,6 @@
 //! Document 01, tried from outside: every test goes through the public calls.
 
+mod attributes;
 mod bench;
 mod both_sides;
 mod compounds;

@@ -83,6 +83,7 @@ fn not_supp_for_source_servers() {
 fn no_file_handle_comes_before_the_stateid() {
     let mut bench = bench();
     for operation in [
+        getattr(&[0x11]),
         getfh(),
         savefh(),
         restorefh(),

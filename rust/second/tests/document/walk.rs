@@ -209,6 +209,47 @@ fn counted_by_hand(store: &Store) -> (u64, u64) {
     (blocks.len() as u64, owed.count() as u64)
 }
 
+/// A file's slots that hold a block or are reserved; and its blocks that no other file holds with
+/// its owed slots, straight from their definitions.
+fn space_by_hand(bench: &Bench, file: usize) -> (u64, u64) {
+    let words = bench.words(file);
+    let used = words.iter().filter(|&&word| word != 0).count();
+    let holders = |files: &[usize], block: u32| {
+        let words = files.iter().flat_map(|&file| bench.words(file));
+        words.filter(|&word| word / 2 == block).count()
+    };
+    let all: Vec<usize> = (0..bench.geometry.files as usize).collect();
+    let others: Vec<usize> = all.iter().copied().filter(|&at| at != file).collect();
+    let blocks = (1..=bench.geometry.blocks as u32)
+        .filter(|&block| holders(&[file], block) > 0 && holders(&others, block) == 0);
+    let owed = words
+        .iter()
+        .filter(|&word| word % 2 == 1 && (word / 2 == 0 || holders(&all, word / 2) > 1));
+    (used as u64, (blocks.count() + owed.count()) as u64)
+}
+
+#[test]
+fn space_is_what_its_definitions_count() {
+    let mut differing = 0;
+    for seed in 1..=40 {
+        let mut bench = Bench::new(small(seed));
+        let b = bench.geometry.block_size;
+        let mut dice = dice(seed * 33);
+        for _ in 0..100 {
+            bench.last(&dice.edit(&bench.geometry).operations());
+            for file in 0..bench.geometry.files as usize {
+                let (used, freed) = space_by_hand(&bench, file);
+                let values = [long(b * used), long(b * freed)];
+                let body = attributes_body(&[0, 0x2000, 0x4000], &values);
+                let answer = bench.on(file as u32, getattr(&[0, 0x2000, 0x4000]));
+                assert_eq!(answer, (OK, body));
+                differing += u32::from(used != freed);
+            }
+        }
+    }
+    assert!(differing > 1000, "{differing}");
+}
+
 #[test]
 fn no_space_exactly_where_a_larger_pool_counts_too_many() {
     let mut refused = 0;
@@ -299,6 +340,7 @@ fn no_bytes_harm_the_store() {
             copy(0, 1, 30),
             read_plus(0, 2048),
             getfh(),
+            getattr(&[0x11, 0x2000, 0x6000]),
         ],
     ];
     for round in 0..6000 {

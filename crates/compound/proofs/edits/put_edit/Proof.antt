@@ -1,7 +1,6 @@
 use mathlib.Core.Path.{sym}
-use native.Mathlib.Omega.{arith}
 use Rattle.wire.proofs.FieldLaws.{written-sized}
-use Rattle.compound.proofs.SpliceLaws.{written-none}
+use Rattle.xdr.proofs.BytesLaws.{written-none}
 use borrow.Author.Needs.{needs}
 use Rattle.compound.proofs.edits.put_edit.Statement.{statement}
 use Rattle.compound.proofs.edits.put_edit.Tie as tie
@@ -21,13 +20,13 @@ returns-2 c =
     rw (m .enum-told2 .given .1) (written-sized (sym (w .size)) w)
 
 returns-3 : tie.Need-returns-3
-returns-3 c = rw (c .enum-told3 .given .1) (written-none _ _ (omega (arith, c .before .before .before .before .pre .1)))
+returns-3 c = rw (c .enum-told3 .given .1) (written-none _ _)
 
 returns-4 : tie.Need-returns-4
-returns-4 c = rw (c .enum-told4 .given .1) (written-none _ _ (omega (arith, c .before .before .before .before .pre .1)))
+returns-4 c = rw (c .enum-told4 .given .1) (written-none _ _)
 
 returns-5 : tie.Need-returns-5
-returns-5 c = rw (c .enum-told5 .given .1) (written-none _ _ (omega (arith, c .before .before .before .before .pre .1)))
+returns-5 c = rw (c .enum-told5 .given .1) (written-none _ _)
 
 pub put-edit-spec : {M : Type 1} → statement M
 put-edit-spec =

@@ -9,25 +9,33 @@ use Rattle.compound.proofs.reads.show.Tie as tie
 put-view-requires : tie.Need-put-view-requires
 put-view-requires c κs =
     let f = c .before in
-    let h = f .before .before .before in
-    let s = h .before .before .before .before .before .before in
-    shows-there (s .args .p) (s .pre .0) (f .file-of .ensures) (s .pre .1) (h .put-result .ensures)
+    let h = f .before .before .before .before in
+    let s = h .before .before .before .before .before .before .before in
+    record {
+      shows = shows-there (s .args .p) (s .pre .known) (f .file-of .ensures) (s .pre .room) (h .put-result .ensures);
+      counted = s .pre .counted;
+      blocks = s .pre .blocks;
+    }
 
 returns : tie.Need-returns
 returns c =
-    let v = c .before .before in
+    let v = c .before .before .before .before in
     let f = v .before .before in
-    let h = f .before .before .before in
-    let s = h .before .before .before .before .before .before in
+    let h = f .before .before .before .before in
+    let s = h .before .before .before .before .before .before .before in
+    let w = v .put-view .ensures in
     record {
-      status-is = refl;
-      current-is = refl;
-      saved-is = refl;
-      written = written-then (omega (arith, s .pre .1)) (h .put-result .ensures) (rw (f .file-of .ensures) at (v .put-view .ensures));
+      wrote = record {
+        status-is = refl;
+        current-is = refl;
+        saved-is = refl;
+        written = written-then (omega (arith, s .pre .room)) (h .put-result .ensures) (rw (f .file-of .ensures) at (w .written));
+      };
+      table = w .table;
     }
 
 pub show-spec : {M : Type 1} → statement M
 show-spec =
     tie.close
     (tie.spec
-    (λ c κs. search needs) (λ c κs. search needs) put-view-requires (λ c. search needs) returns)
+    (λ c κs. search needs) (λ c κs. search needs) put-view-requires (λ c. search needs) (λ c. search needs) returns)

@@ -38,11 +38,14 @@ returns-11 c = λ s. rw (c .enum-told11 .given .1)
 returns-12 : tie.Need-returns-12
 returns-12 c = λ s. rw (c .enum-told12 .given .1)
 
+returns-13 : tie.Need-returns-13
+returns-13 c = λ s. rw (c .enum-told13 .given .1)
+
 pub number-spec : {M : Type 1} → statement M
 number-spec =
     tie.close
     (tie.spec
-    (λ c. search needs) (λ c. search needs) (λ c. search needs) (λ c. search needs) (λ c. search needs)
+    (λ c. search needs) (λ c. search needs) (λ c. search needs) (λ c. search needs) (λ c. search needs) (λ c. search needs)
     (λ c. search needs) (λ c. search needs) (λ c. search needs) (λ c. search needs) (λ c. search needs)
     (λ c. search needs) (λ c. search needs) returns
     returns-2
@@ -55,4 +58,5 @@ number-spec =
     returns-9
     returns-10
     returns-11
-    returns-12)
+    returns-12
+    returns-13)

@@ -59,10 +59,15 @@ returns-2 c =
     (sym (t .before .error .ensures st refl) ∙ t .if1 .left) (s .pre .known) (s .pre .counted) (w .without-body2 .ensures) refl
     (ap (doesOf (geometryOf (a .c .geometry)) (a .s .now) (a .p) st) (sym (m .current .given .1)) ∙ d .does-of .ensures .is _ st refl)
 
+show-requires : tie.Need-show-requires
+show-requires c κs =
+    let s = c .before .before .before .before .before .before .before .before .before .before .before .before .before .before .before .before .before .before .before .before .before in
+    record { known = s .pre .known; counted = s .pre .counted; blocks = s .pre .blocks; room = s .pre .room }
+
 returns-3 : tie.Need-returns-3
 returns-3 c =
-    let w = c .before .before in
-    let m = w .before .before .before .before .before .before in
+    let w = c .before .before .before .before in
+    let m = w .before .before .before .before .before .before .before in
     let d = m .before .before in
     let t = d .before .before in
     let k = t .before .before .before in
@@ -70,7 +75,7 @@ returns-3 c =
     let a = s .args in
     let st : Store = record { sizes = a .sizes .now; words = a .words .now; mem = a .mem .now } in
     λ next. answers-shows (configOf (a .c)) (a .p) st (meaning (a .s .now) (a .o)) next (k .number .ensures (a .s .now))
-    (sym (t .before .error .ensures st refl) ∙ t .if1 .left) (s .pre .known) (s .pre .counted) (w .show .ensures)
+    (sym (t .before .error .ensures st refl) ∙ t .if1 .left) (s .pre .known) (rw (w .show .ensures .table) (s .pre .counted)) (w .show .ensures .wrote)
     (ap (doesOf (geometryOf (a .c .geometry)) (a .s .now) (a .p) st) (sym (m .v .given .1)) ∙ d .does-of .ensures .is _ st refl)
 
 returns-4 : tie.Need-returns-4
@@ -94,8 +99,7 @@ operation-spec =
     tie.close
     (tie.spec
     (λ c κs. search needs) error-requires (λ c κs. search needs) (λ c. search needs) (λ c. search needs) returns
-    does-of-requires (λ c. search needs) (λ c κs. search needs) (λ c. search needs) (λ c κs. search needs)
-    (λ c. search needs) (λ c κs. search needs) apply-requires edited-requires (λ c. search needs)
-    (λ c. search needs) returns-2
-    (λ c. search needs) (λ c. search needs) (λ c. search needs) (λ c. search needs) returns-3
+    does-of-requires (λ c. search needs) (λ c κs. search needs) (λ c. search needs) show-requires
+    (λ c. search needs) (λ c κs. search needs) apply-requires edited-requires (λ c. search needs) (λ c. search needs) returns-2
+    (λ c. search needs) (λ c. search needs) (λ c. search needs) (λ c. search needs) (λ c. search needs) returns-3
     (λ c. search needs) (λ c. search needs) (λ c. search needs) (λ c. search needs) (λ c. search needs) returns-4)

@@ -1,68 +1,15 @@
-use Prim.Native.Nat.{ℕ, _+_, _-_, _≤_, _<_}
-use mathlib.Core.Path.{_≡_, refl, ap, _∙_}
-use mathlib.Core.List.{List}
-use native.Mathlib.Omega.{arith}
-use lib.ListN.{length, drop, getD, getD-replicate}
 use borrow.Author.Needs.{needs}
-use Rattle.rules.specs.Store.{holds, holders}
-use Rattle.rules.proofs.CountLaws.{count-end}
-use Rattle.tables.proofs.TallyLaws.{count-most, noted-turn}
+use Rattle.tables.proofs.TallyLaws.{zeros-fit, zeros-noted}
 use Rattle.tables.proofs.tally.tally.Statement.{statement}
 use Rattle.tables.proofs.tally.tally.Tie as tie
 
-abbrev Inv-loop : tie.InvT-loop
-Inv-loop words counts₀ i₀ counts i =
-    (i ≤ length words) × ((length counts ≡ length counts₀) × ((b : ℕ) → b < length counts → getD counts b 0 + holders b (drop i words) ≡ holders b words))
+note-all-requires : tie.Need-note-all-requires
+note-all-requires c κs = zeros-fit (c .before .before .before .pre)
 
-abbrev μ-loop : tie.MeasureT-loop
-μ-loop words counts₀ i₀ counts i = length words - i
-
-loop-holds : tie.Need-loop-holds Inv-loop μ-loop
-loop-holds c =
-    let s = c .before .before in
-    (omega arith, (refl, λ b h. omega (arith, ap (λ (l : List ℕ). getD l b 0) (s .pre .zeros) ∙ getD-replicate _ b 0 0 h)))
-
-shared-slice-read-note : tie.Need-shared-slice-read-note Inv-loop μ-loop
-shared-slice-read-note c = omega arith
-
-note-requires : tie.Need-note-requires Inv-loop μ-loop
-note-requires c κs =
-    let l = c .before .before .before in
-    let s = l .before .before .before in (
-      omega (arith, s .pre .pool (l .loop .i)),
-      λ b h. omega (arith, l .loop .inv .1 .1 b h, count-most (holds b) (s .args .words .now), s .pre .few),
-    )
-
-add-i : tie.Need-add-i Inv-loop μ-loop
-add-i c = omega arith
-
-loop-less : tie.Need-loop-less Inv-loop μ-loop
-loop-less c = omega arith
-
-loop-again : tie.Need-loop-again Inv-loop μ-loop
-loop-again c =
-    let n = c .before .before in
-    let l = n .before .before .before .before in
-    let ws = l .before .before .before .args .words .now in
-    let same : length (n .note .last .0) ≡ length (l .loop .counts) = n .note .kept .0 in (
-      omega arith,
-      (
-        same ∙ l .loop .inv .1 .0,
-        λ b h. rw (n .note .ensures) (noted-turn ws (l .loop .counts) (l .loop .i) b (omega arith) (omega arith) ∙ l .loop .inv .1 .1 b (omega arith)),
-      ),
-    )
-
-same-length : tie.Need-same-length Inv-loop μ-loop
-same-length c = c .before .loop .inv .1 .0
-
-returns : tie.Need-returns Inv-loop μ-loop
+returns : tie.Need-returns
 returns c =
-    let l = c .before in
-    record { each = λ b h. omega (arith, l .loop .inv .1 .1 b h, count-end (holds b) (l .before .before .before .args .words .now) (l .loop .i) (c .loop-test .left)) }
+    let n = c .before .before in
+    zeros-noted (n .before .before .before .before .pre) (n .note-all .ensures)
 
 pub tally-spec : {M : Type 1} → statement M
-tally-spec =
-    tie.close
-    (tie.spec
-    Inv-loop μ-loop loop-holds (λ c. search needs) shared-slice-read-note note-requires add-i loop-less loop-again
-    same-length returns)
+tally-spec = tie.close (tie.spec note-all-requires (λ c. search needs) returns)

@@ -1,13 +1,16 @@
--- The bitmap of a result has no trailing zero word.
+-- The bitmap of a result has no trailing zero word; how long it and the values are.
 use Prim.Native.Nat.{ℕ, suc, _/_, _%_, _≤_}
 use mathlib.Core.Path.{_≡_, refl, sym, _∙_}
+use mathlib.Core.Bool.{Bool, true, false, cond}
 use mathlib.Core.List.{List, [], _∷_}
 use native.Mathlib.Nat.{zero-add, one-le-pow}
 use native.Mathlib.Decide.{decLe}
 use native.Mathlib.Omega.{arith}
 use borrow.Author.Tests.{eq-eqb}
-use lib.ListN.{length, getD}
-use Rattle.rules.specs.Attributes.{Attr, attrNumber, bitmapWord, bitmapLength, bitmap}
+use lib.ListN.{length, getD, length-append}
+use Rattle.xdr.specs.Encode.{concatMap, array}
+use Rattle.xdr.proofs.EncodeLaws.{length-u32, length-u64, length-array}
+use Rattle.rules.specs.Attributes.{Attr, attrNumber, supported, select, bitmapWord, bitmapLength, bitmap, FileAttrs, attrValue}
 use Rattle.rules.proofs.SlotByteLaws.{length-tab, getD-tab}
 
 -- an attribute's word has its bit
@@ -31,3 +34,34 @@ pub bitmap-ends : (xs : List Attr) (n : ℕ) → length (bitmap xs) ≡ suc n �
 bitmap-ends xs n e =
     let k : bitmapLength xs ≡ suc n = sym (length-tab (bitmapWord xs) (bitmapLength xs) 0) ∙ e in
     rw (getD-tab (bitmapWord xs) (bitmapLength xs) 0 n (omega arith), zero-add n) (last-word xs n k)
+
+-- ---- attributes that a test selects
+
+selected-length : (p : Attr → Bool) (xs : List Attr) → bitmapLength (select p xs) ≤ bitmapLength xs
+selected-length p [] = omega arith
+selected-length p (x ∷ xs) = go (p x) (selected-length p xs)
+  where
+    go : (t : Bool) → bitmapLength (select p xs) ≤ bitmapLength xs → bitmapLength (cond t (x ∷ select p xs) (select p xs)) ≤ bitmapLength (x ∷ xs)
+    go true h = omega arith
+    go false h = omega arith
+
+selected-bytes : (f : Attr → List ℕ) (p : Attr → Bool) (xs : List Attr) → length (concatMap f (select p xs)) ≤ length (concatMap f xs)
+selected-bytes f p [] = omega arith
+selected-bytes f p (x ∷ xs) = go (p x) (selected-bytes f p xs)
+  where
+    go : (t : Bool) → length (concatMap f (select p xs)) ≤ length (concatMap f xs) → length (concatMap f (cond t (x ∷ select p xs) (select p xs))) ≤ length (concatMap f (x ∷ xs))
+    go true h = simp length-append (omega arith)
+    go false h = simp length-append (omega arith)
+
+-- at most three words
+pub words-most : (p : Attr → Bool) → bitmapLength (select p supported) ≤ 3
+words-most p = selected-length p supported
+
+pub bitmap-most : (p : Attr → Bool) → length (array (bitmap (select p supported))) ≤ 16
+bitmap-most p =
+    omega (arith, length-array (bitmap (select p supported)), length-tab (bitmapWord (select p supported)) (bitmapLength (select p supported)) 0, words-most p)
+
+pub values-most : (v : FileAttrs) (p : Attr → Bool) → length (concatMap (attrValue v) (select p supported)) ≤ 44
+values-most v p =
+    let all : length (concatMap (attrValue v) supported) ≡ 44 = simp (length-append, length-array, length-u64, length-u32) refl in
+    rw all at (selected-bytes (attrValue v) p supported)

@@ -9,14 +9,15 @@ use native.Mathlib.Omega.{arith}
 use borrow.Author.Tests.{lt-ltb}
 use lib.ListN.{length, replicate, length-append, List·getD-eq-default}
 use Rattle.xdr.specs.Encode.{opaque, padBytes, concatMap}
-use Rattle.xdr.proofs.EncodeLaws.{length-u32, length-u64, length-bool, length-opaque, length-array}
+use Rattle.xdr.proofs.EncodeLaws.{length-u32, length-u64, length-bool, length-opaque}
 use Rattle.rules.specs.Store.{Geometry, Store, sizeOf, byteAt, bytesFrom}
 use Rattle.rules.specs.Read.{Piece, join, pieces, granted, readCount, readPieces}
-use Rattle.rules.specs.Attributes.{Attr, attrNumber, supported, select, asksFor, bitmapLength, FileAttrs, fileAttrs, attrValue}
+use Rattle.rules.specs.Attributes.{Attr, attrNumber, supported, select, asksFor, fileAttrs, attrValue}
 use Rattle.rules.specs.Operation.{getattrReply, holePiece, dataPiece, pieceBytes, readReply, readPlusReply, seekReply, writeReply, copyReply}
 use Rattle.rules.specs.Claim.{laid}
 use Rattle.rules.proofs.SoundStore.{div-le, div-ge, Sound}
 use Rattle.rules.proofs.SlotByteLaws.{length-tab}
+use Rattle.rules.proofs.AttributeLaws.{bitmap-most, values-most}
 use Rattle.rules.proofs.ReadLaws.{pieces-none, read-plus-laid}
 
 pub pad-most : (n m : ℕ) → n ≤ m → m % 4 ≡ 0 → n + padBytes n ≤ m
@@ -27,36 +28,12 @@ opaque-most d m h e = omega (arith, length-opaque d, pad-most (length d) m h e)
 
 -- ---- GETATTR
 
--- the words of a bitmap, and the bytes of values, for any test
-selected-length : (p : Attr → Bool) (xs : List Attr) → bitmapLength (select p xs) ≤ bitmapLength xs
-selected-length p [] = omega arith
-selected-length p (x ∷ xs) = go (p x) (selected-length p xs)
-  where
-    go : (t : Bool) → bitmapLength (select p xs) ≤ bitmapLength xs → bitmapLength (cond t (x ∷ select p xs) (select p xs)) ≤ bitmapLength (x ∷ xs)
-    go true h = omega arith
-    go false h = omega arith
-
-selected-bytes : (f : Attr → List ℕ) (p : Attr → Bool) (xs : List Attr) → length (concatMap f (select p xs)) ≤ length (concatMap f xs)
-selected-bytes f p [] = omega arith
-selected-bytes f p (x ∷ xs) = go (p x) (selected-bytes f p xs)
-  where
-    go : (t : Bool) → length (concatMap f (select p xs)) ≤ length (concatMap f xs) → length (concatMap f (cond t (x ∷ select p xs) (select p xs))) ≤ length (concatMap f (x ∷ xs))
-    go true h = simp length-append (omega arith)
-    go false h = simp length-append (omega arith)
-
-values-most : (v : FileAttrs) → length (concatMap (attrValue v) supported) ≡ 44
-values-most v = simp (length-append, length-array, length-u64, length-u32) refl
-
 pub getattr-most : (g : Geometry) (st : Store) (f : ℕ) (ws : List ℕ) → length (getattrReply g st f ws) ≤ 2171
 unfolding getattrReply
 getattr-most g st f ws =
     let p : Attr → Bool = λ a. asksFor ws (attrNumber a) in
     let v = fileAttrs g st f in
-    simp (length-append, length-array, length-tab) (omega (
-      arith,
-      selected-length p supported,
-      opaque-most (concatMap (attrValue v) (select p supported)) 44 (rw (values-most v) at (selected-bytes (attrValue v) p supported)) refl,
-    ))
+    simp length-append (omega (arith, bitmap-most p, opaque-most (concatMap (attrValue v) (select p supported)) 44 (values-most v p) refl))
 
 -- ---- READ_PLUS
 

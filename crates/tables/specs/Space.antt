@@ -58,7 +58,7 @@ pub record SpaceKnown (g : Geometry) (ws counts : List ℕ) (f : ℕ) : Type 0 w
   pub slots : length ws ≡ g .F * g .S
   pub file : f < g .F
 
--- the room of file f: slots that hold a block or are reserved, and the blocks that emptying it frees; the table is as before
+-- the room of file f, in slots, and what emptying it frees, in blocks; the table is as before
 pub record SpaceIs (g : Geometry) (ws : List ℕ) (f used freed : ℕ) (before after : List ℕ) : Type 0 where
   pub used-is : used ≡ count takesRoom (slotsOf g ws f)
   pub freed-is : freed ≡ freedBlocks g ws f

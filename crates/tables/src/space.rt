@@ -10,7 +10,7 @@ use crate::tally::note_all;
 use crate::tally::owed_slots;
 use crate::words::forget;
 
-// Slots that hold a block or are reserved, and blocks that are free once they are emptied.
+// Slots that hold a block or are reserved; and blocks that no other slot holds, with the slots that owe one.
 pub struct Space {
     pub used: usize,
     pub freed: usize,

@@ -1,4 +1,4 @@
--- Attributes that are selected by a test, one after the other: their bitmap and their values.
+-- Attributes that are selected by a test, one after the other: their bitmap, their values, and the room that these need.
 use Prim.Native.Nat.{ℕ, zero, suc, _+_, _/_, _%_, _^_, _≤_, max}
 use mathlib.Core.Path.{_≡_, refl}
 use mathlib.Core.Bool.{Bool, true, false, cond}
@@ -6,11 +6,14 @@ use mathlib.Core.List.{List, [], _∷_, _++_, append-nil}
 use native.Mathlib.Omega.{arith}
 use lib.ListN.{length, take, length-append}
 use lib.Dec.{eqb}
-use Rattle.xdr.specs.Encode.{u32, array, opaque, padBytes, concatMap}
+use Rattle.xdr.specs.Bytes.{Written}
+use Rattle.xdr.specs.Encode.{u32, opaque, padBytes, concatMap}
 use Rattle.xdr.proofs.EncodeLaws.{length-u32, length-u64, length-array}
 use Rattle.rules.specs.Lists.{tabulate}
-use Rattle.rules.proofs.SlotByteLaws.{length-tab}
+use Rattle.rules.proofs.AttributeLaws.{words-most}
 use Rattle.rules.specs.Attributes.{Attr, SUPPORTED-ATTRS, SIZE, SPACE-USED, CLONE-BLKSIZE, SPACE-FREED, attrNumber, supported, select, bitmapWord, bitmapLength, bitmap, FileAttrs, attrValue}
+use Rattle.wire.specs.declared.attrs.Asked.{Asked}
+use Rattle.wire.proofs.FieldLaws.{written-room}
 
 pub cond-most : (t : Bool) (n : ℕ) → cond t n 0 ≤ n
 cond-most true n = omega arith
@@ -86,14 +89,11 @@ module _ (p : Attr → Bool) where
   third-word : bitmapWord (select p supported) 2 ≡ cond (p CLONE-BLKSIZE) 8192 0 + cond (p SPACE-FREED) 16384 0
   third-word = omega (arith, word-all 2, none SUPPORTED-ATTRS, none SIZE, none SPACE-USED)
 
-  pub length-most : bitmapLength (select p supported) ≤ 3
-  length-most = omega (arith, length-all, cond-most (p SUPPORTED-ATTRS) 1, cond-most (p SIZE) 1, cond-most (p SPACE-USED) 2, cond-most (p CLONE-BLKSIZE) 3, cond-most (p SPACE-FREED) 3)
-
   -- the bitmap is the first words of the three
   pub bitmap-is : take (bitmapLength (select p supported))
       ((cond (p SUPPORTED-ATTRS) 1 0 + cond (p SIZE) 16 0) ∷ cond (p SPACE-USED) 8192 0 ∷ (cond (p CLONE-BLKSIZE) 8192 0 + cond (p SPACE-FREED) 16384 0) ∷ [])
       ≡ bitmap (select p supported)
-  bitmap-is = rw (← first-word, ← second-word, ← third-word) (go (bitmapLength (select p supported)) length-most)
+  bitmap-is = rw (← first-word, ← second-word, ← third-word) (go (bitmapLength (select p supported)) (words-most p))
     where
       f : ℕ → ℕ
       f = bitmapWord (select p supported)
@@ -117,10 +117,7 @@ module _ (p : Attr → Bool) where
     append-nil (cond (p SPACE-FREED) (f SPACE-FREED) []),
   )
 
-  -- how long the two are
-  pub bitmap-most : length (array (bitmap (select p supported))) ≤ 16
-  bitmap-most = omega (arith, length-array (bitmap (select p supported)), length-tab (bitmapWord (select p supported)) (bitmapLength (select p supported)) 0, length-most)
-
+  -- how long they are
   values-length : (v : FileAttrs) → length (concatMap (attrValue v) (select p supported))
       ≡ cond (p SUPPORTED-ATTRS) 16 0 + (cond (p SIZE) 8 0 + (cond (p SPACE-USED) 8 0 + (cond (p CLONE-BLKSIZE) 4 0 + cond (p SPACE-FREED) 8 0)))
   values-length v = rw (values-all (attrValue v)) (simp length-append (rw (
@@ -130,10 +127,6 @@ module _ (p : Attr → Bool) where
     cond-length (p CLONE-BLKSIZE) (attrValue v CLONE-BLKSIZE) (length-u32 (v .cloneBlksize)),
     cond-length (p SPACE-FREED) (attrValue v SPACE-FREED) (length-u64 (v .spaceFreed)),
   )))
-
-  pub values-most : (v : FileAttrs) → length (concatMap (attrValue v) (select p supported)) ≤ 44
-  values-most v =
-      omega (arith, values-length v, cond-most (p SUPPORTED-ATTRS) 16, cond-most (p SIZE) 8, cond-most (p SPACE-USED) 8, cond-most (p CLONE-BLKSIZE) 4, cond-most (p SPACE-FREED) 8)
 
   values-fours : (v : FileAttrs) → length (concatMap (attrValue v) (select p supported)) % 4 ≡ 0
   values-fours v =
@@ -150,3 +143,20 @@ module _ (p : Attr → Bool) where
       let d = concatMap (attrValue v) (select p supported) in
       let none : padBytes (length d) ≡ 0 = omega (arith, values-fours v) in
       rw (none, append-nil d)
+
+-- ---- room for the values that follow, behind each that is written or left out
+
+module _ (a : Asked) {at : ℕ} {x : List ℕ} (room : at + 44 ≤ length x) {b₁ y₁ : List ℕ} {p₁ : ℕ} (w₁ : Written b₁ (cond (a .«supported_attrs») 16 0) at x y₁ p₁) where
+  pub after-supported : p₁ + 28 ≤ length y₁
+  after-supported = written-room 16 28 room (cond-most (a .«supported_attrs») 16) w₁
+
+  module _ {b₂ y₂ : List ℕ} {p₂ : ℕ} (w₂ : Written b₂ (cond (a .size) 8 0) p₁ y₁ y₂ p₂) where
+    pub after-size : p₂ + 20 ≤ length y₂
+    after-size = written-room 8 20 after-supported (cond-most (a .size) 8) w₂
+
+    module _ {b₃ y₃ : List ℕ} {p₃ : ℕ} (w₃ : Written b₃ (cond (a .«space_used») 8 0) p₂ y₂ y₃ p₃) where
+      pub after-used : p₃ + 12 ≤ length y₃
+      after-used = written-room 8 12 after-size (cond-most (a .«space_used») 8) w₃
+
+      pub after-blksize : {b₄ y₄ : List ℕ} {p₄ : ℕ} → Written b₄ (cond (a .«clone_blksize») 4 0) p₃ y₃ y₄ p₄ → p₄ + 8 ≤ length y₄
+      after-blksize w₄ = written-room 4 8 after-used (cond-most (a .«clone_blksize») 4) w₄

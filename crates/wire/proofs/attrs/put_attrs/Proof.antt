@@ -4,10 +4,11 @@ use native.Mathlib.Omega.{arith}
 use Rattle.xdr.proofs.BytesLaws.{written-then, written-before}
 use lib.ListN.{length}
 use Rattle.xdr.specs.Encode.{concatMap}
+use Rattle.rules.proofs.AttributeLaws.{bitmap-most, values-most}
 use Rattle.rules.specs.Attributes.{supported, select, attrValue}
 use Rattle.wire.specs.Attrs.{asks, attrsOf}
 use Rattle.wire.proofs.FieldLaws.{written-sized, written-room}
-use Rattle.wire.proofs.AttrLaws.{bitmap-most, values-most, values-opaque}
+use Rattle.wire.proofs.AttrLaws.{values-opaque}
 use borrow.Author.Needs.{needs}
 use Rattle.wire.proofs.attrs.put_attrs.Statement.{statement}
 use Rattle.wire.proofs.attrs.put_attrs.Tie as tie
@@ -31,7 +32,7 @@ cast-put-u32 : tie.Need-cast-put-u32
 cast-put-u32 c =
     let v = c .before .before .before in
     let a = v .before .before .before .before .before .before .before .args in
-    omega (arith, v .put-values .ensures .place, values-most (asks (a .a)) (attrsOf (a .v)))
+    omega (arith, v .put-values .ensures .place, values-most (attrsOf (a .v)) (asks (a .a)))
 
 put-u32-requires : tie.Need-put-u32-requires
 put-u32-requires c κs =
@@ -50,7 +51,7 @@ returns c =
     let a = attrsOf (s .args .v) in
     let room = written-room 16 48 (s .pre) (bitmap-most p) (k .put-bitmap .ensures) in
     let n : v .put-values .result - (k .put-bitmap .result + 4) ≡ length (concatMap (attrValue a) (select p supported)) = omega (arith, v .put-values .ensures .place) in
-    let w = written-before refl (omega (arith, room, values-most p a)) (v .put-values .ensures) (u .put-u32 .ensures) in
+    let w = written-before refl (omega (arith, room, values-most a p)) (v .put-values .ensures) (u .put-u32 .ensures) in
     let t = written-then (omega (arith, s .pre)) (k .put-bitmap .ensures) (rw (n, ← values-opaque p a) at w) in
     written-sized (sym (t .size)) t
 

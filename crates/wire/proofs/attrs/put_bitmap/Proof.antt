@@ -3,10 +3,11 @@ use Prim.Native.Nat.{_≤_}
 use native.Mathlib.Omega.{arith}
 use lib.Seq.{length-take-le}
 use Rattle.xdr.proofs.EncodeLaws.{length-array}
+use Rattle.rules.proofs.AttributeLaws.{words-most}
 use Rattle.rules.specs.Attributes.{SUPPORTED-ATTRS, SIZE, CLONE-BLKSIZE, SPACE-FREED, supported, select, bitmap}
 use Rattle.wire.specs.Attrs.{asks}
 use Rattle.wire.proofs.FieldLaws.{written-sized}
-use Rattle.wire.proofs.AttrLaws.{cond-most, length-most, bitmap-is}
+use Rattle.wire.proofs.AttrLaws.{cond-most, bitmap-is}
 use borrow.Author.Needs.{needs}
 use Rattle.wire.proofs.attrs.put_bitmap.Statement.{statement}
 use Rattle.wire.proofs.attrs.put_bitmap.Tie as tie
@@ -24,17 +25,17 @@ add-t11 c =
 array-share-prefix-words : tie.Need-array-share-prefix-words
 array-share-prefix-words c =
     let a = c .before .before .before .before .before .before .before .before .args .a in
-    omega (arith, c .bitmap-words .ensures, length-most (asks a))
+    omega (arith, c .bitmap-words .ensures, words-most (asks a))
 
 slice-aggregate-put-array : tie.Need-slice-aggregate-put-array
 slice-aggregate-put-array c =
     let a = c .before .before .before .before .before .before .before .before .before .args .a in
-    sym (length-take-le (c .before .bitmap-words .result) _ (omega (arith, c .before .bitmap-words .ensures, length-most (asks a))))
+    sym (length-take-le (c .before .bitmap-words .result) _ (omega (arith, c .before .bitmap-words .ensures, words-most (asks a))))
 
 put-array-requires : tie.Need-put-array-requires
 put-array-requires c κs =
     let s = c .before .before .before .before .before .before .before .before .before in
-    let n : c .before .bitmap-words .result ≤ 3 = omega (arith, c .before .bitmap-words .ensures, length-most (asks (s .args .a))) in
+    let n : c .before .bitmap-words .result ≤ 3 = omega (arith, c .before .bitmap-words .ensures, words-most (asks (s .args .a))) in
     rw (length-take-le (c .before .bitmap-words .result) _ n) (omega (arith, n), omega (arith, n, s .pre))
 
 returns : tie.Need-returns

@@ -17,23 +17,11 @@ Inv-loop numbers n₀ i₀ n i = (i ≤ length numbers) × (n + count (ltb 0) (d
 abbrev μ-loop : tie.MeasureT-loop
 μ-loop numbers n₀ i₀ n i = length numbers - i
 
-loop-holds : tie.Need-loop-holds Inv-loop μ-loop
-loop-holds c = omega arith
-
-shared-slice-read-above-zero : tie.Need-shared-slice-read-above-zero Inv-loop μ-loop
-shared-slice-read-above-zero c = omega arith
-
 add-n : tie.Need-add-n Inv-loop μ-loop
 add-n c =
     let l = c .before .before .before in
     let s = l .before .before .args .numbers .now in
     omega (arith, count-drop (ltb 0) s (l .loop .i) (omega arith), count-most (ltb 0) s)
-
-add-i : tie.Need-add-i Inv-loop μ-loop
-add-i c = omega arith
-
-loop-less : tie.Need-loop-less Inv-loop μ-loop
-loop-less c = omega arith
 
 loop-again : tie.Need-loop-again Inv-loop μ-loop
 loop-again c =
@@ -50,6 +38,6 @@ pub count-above-zero-spec : {M : Type 1} → statement M
 count-above-zero-spec =
     tie.close
     (tie.spec
-    Inv-loop μ-loop loop-holds (λ c. search needs) shared-slice-read-above-zero (λ c κs. search needs) add-n add-i
-    loop-less loop-again
+    Inv-loop μ-loop (λ c. omega arith) (λ c. search needs) (λ c. omega arith) (λ c κs. search needs) add-n (λ c. omega arith)
+    (λ c. omega arith) loop-again
     returns)

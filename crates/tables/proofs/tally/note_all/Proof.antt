@@ -19,9 +19,6 @@ abbrev μ-loop : tie.MeasureT-loop
 loop-holds : tie.Need-loop-holds Inv-loop μ-loop
 loop-holds c = (omega arith, (refl, λ b h. refl))
 
-shared-slice-read-note : tie.Need-shared-slice-read-note Inv-loop μ-loop
-shared-slice-read-note c = omega arith
-
 note-requires : tie.Need-note-requires Inv-loop μ-loop
 note-requires c κs =
     let l = c .before .before .before in
@@ -29,12 +26,6 @@ note-requires c κs =
       omega (arith, s .pre .pool (l .loop .i)),
       λ b h. omega (arith, l .loop .inv .1 .1 b h, s .pre .few b (omega arith)),
     )
-
-add-i : tie.Need-add-i Inv-loop μ-loop
-add-i c = omega arith
-
-loop-less : tie.Need-loop-less Inv-loop μ-loop
-loop-less c = omega arith
 
 loop-again : tie.Need-loop-again Inv-loop μ-loop
 loop-again c =
@@ -65,5 +56,5 @@ pub note-all-spec : {M : Type 1} → statement M
 note-all-spec =
     tie.close
     (tie.spec
-    Inv-loop μ-loop loop-holds (λ c. search needs) shared-slice-read-note note-requires add-i loop-less loop-again
+    Inv-loop μ-loop loop-holds (λ c. search needs) (λ c. omega arith) note-requires (λ c. omega arith) (λ c. omega arith) loop-again
     same-length returns)

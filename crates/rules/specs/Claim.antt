@@ -308,12 +308,14 @@ pub record Promise (E : Entry) (g : Geometry) (t : E .Tables) (cs : List (E .Giv
   pub read-back : (f o p n : ℕ) (d : List ℕ) (r : Event) → ReadAfter g (history E t cs) f o p n d r → OK r × ReadsBack f o p n d r
   pub nospc : (z : Event) → List·Memᴰ z (history E t cs) → NospcExactly g z
 
--- for every list of calls that starts from a sound store; served ones keep its geometry, in a refused one anything but the tables may be wrong
+-- P of every list of calls that starts from a sound store; served ones keep its geometry, in a refused one anything but the tables may be wrong
+abbrev pub EveryList : (E : Entry) → (Geometry → E .Tables → List (E .Given) → List (Outcome (E .Tables)) → Type 0) → Type 0
+EveryList E P = (g : Geometry) (t : E .Tables) → goodGeometry g ≡ true → E .good g t ≡ true → (cs : List (E .Given)) (os : List (Outcome (E .Tables)))
+    → Each E (E .Contract) t cs os → Each E (λ c t o. o .number ≡ 0 → E .geometry c ≡ g) t cs os → P g t cs os
+
 abbrev pub Claim : Entry → Type 0
-Claim E = (g : Geometry) (t : E .Tables) → goodGeometry g ≡ true → E .good g t ≡ true → (cs : List (E .Given)) (os : List (Outcome (E .Tables)))
-    → Each E (E .Contract) t cs os → Each E (λ c t o. o .number ≡ 0 → E .geometry c ≡ g) t cs os → Promise E g t cs os
+Claim E = EveryList E (Promise E)
 
 -- P of every operation that such a list reaches
 abbrev pub EveryEvent : Entry → (Geometry → Event → Type 0) → Type 0
-EveryEvent E P = (g : Geometry) (t : E .Tables) → goodGeometry g ≡ true → E .good g t ≡ true → (cs : List (E .Given)) (os : List (Outcome (E .Tables)))
-    → Each E (E .Contract) t cs os → Each E (λ c t o. o .number ≡ 0 → E .geometry c ≡ g) t cs os → (z : Event) → List·Memᴰ z (history E t cs) → P g z
+EveryEvent E P = EveryList E (λ g t cs os. (z : Event) → List·Memᴰ z (history E t cs) → P g z)

@@ -34,5 +34,6 @@ pub record GivesBackRoom (g : Geometry) (before after : List ℕ) (f : ℕ) : Ty
   pub at-least : need after + spaceFreed g before f / g .B ≤ need before
   pub exactly : need before ≡ need after + spaceFreed g before f / g .B + owedForFile g before f
 
+-- of every DEALLOCATE of a whole file that a list of calls reaches, as in the claim
 abbrev pub EmptyingClaim : Entry → Type 0
 EmptyingClaim E = EveryEvent E (λ g z. (f : ℕ) → Empties z f → GivesBackRoom g (z .before .store .words) (z .after .store .words) f)

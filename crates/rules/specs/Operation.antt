@@ -271,7 +271,7 @@ copyResult = uint then hyper then uint then bytes 8 then boolean then boolean
 
 -- ---- the bodies of results
 
--- the attributes that pass the test
+-- GETATTR with the attributes that pass the test
 abbrev pub attrsReply : FileAttrs → (Attr → Bool) → List ℕ
 attrsReply v p = let xs = select p supported in attrResult .write (bitmap xs, concatMap (attrValue v) xs)
 

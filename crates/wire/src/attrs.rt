@@ -78,6 +78,7 @@ fn has_bit(w: u32, bit: u32) -> bool
     w / bit % 2 == 1
 }
 
+// What the bitmap whose words stand at d asks for.
 pub fn asked_in(s: &[u8], d: Span) -> Asked
     ensures { λ r. ⌜ AsksAs (numbers (partOf (now (s .entry)) d)) r ⌝ }
 {
@@ -139,7 +140,7 @@ fn put_bitmap(reply: &mut [u8], at: usize, a: Asked) -> usize
     xdr::put_array(reply, at, &words[..bitmap_words(a)])
 }
 
-// ---- the values
+// ---- the values, each where it is asked for
 
 fn put_u32_if(reply: &mut [u8], at: usize, asked: bool, n: u32) -> usize
     requires { ⌜ at + 4 ≤ length (now reply) ⌝ }

@@ -168,7 +168,7 @@ pub record Held (g : Geometry) (v s : List ℕ) (st : Store) (ops at out : ℕ) 
 no-handle : (g : Geometry) (f : ℕ) → _≡_ {A = Option ℕ} none (some f) → f < g .F
 no-handle g f e = absurd (let z : _≡_ {A = ℕ} 0 1 = cc in omega arith)
 
-module _ {g : Geometry} {v s : List ℕ} (hv : length v ≡ 8) {st : Store} {ops : ℕ} {before counts₀ : List ℕ} {r₀ : Progress} (a : RunsAll g s st counts₀ ops before r₀) where
+module _ {g : Geometry} {v s : List ℕ} (hv : length v ≡ 8) {st : Store} {ops : ℕ} {before counts₀ : List ℕ} {r₀ : Progress} (a : RunsAll g st counts₀ ops before r₀) where
   pub held-start : Held g v s st ops (r₀ .read) (r₀ .at .at) before (stateOf (r₀ .at) st) counts₀ before r₀
   held-start =
       let all : ops ≡ ops - 0 = omega arith in
@@ -187,13 +187,12 @@ module _ {g : Geometry} {v s : List ℕ} (hv : length v ≡ 8) {st : Store} {ops
       })
 
   module _ {counts reply : List ℕ} {r : Progress} {st₁ : Store} (h : Held g v s st ops (r₀ .read) (r₀ .at .at) before (stateOf (r .at) st₁) counts reply r) where
-    pub held-runs : r .count < ops → Runs g s (stateOf (r .at) st₁) counts reply (r .at .at) × (r .count < 12)
+    pub held-runs : r .count < ops → Runs g (stateOf (r .at) st₁) counts reply (r .at .at) × (r .count < 12)
     held-runs l = (
       record {
         known = h .known;
         counted = h .counted;
         blocks = h .blocks;
-        request = a .request;
         room = omega (arith, a .room, a .few, h .sofar .place, h .long, l);
       },
       omega (arith, a .few, l),

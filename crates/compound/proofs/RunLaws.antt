@@ -56,7 +56,7 @@ module _ {g : Geometry} (p : Position) {st : Store} (k : Known g (stateOf p st))
         saved = omega (arith, file-known (g .F) (fileIn (p .saved)) (good g (k .shaped .geometry) .files) (k .saved), long);
       }
 
-pub edit-known : {g : Geometry} {s counts reply : List ℕ} (p : Position) {st : Store} {at : ℕ} → Runs g s (stateOf p st) counts reply at
+pub edit-known : {g : Geometry} {counts reply : List ℕ} (p : Position) {st : Store} {at : ℕ} → Runs g (stateOf p st) counts reply at
     → EditKnown g st counts (fileOf (fileIn (p .current)))
 edit-known p r =
     record { shaped = r .known .shaped; sound = r .known .sound; counted = r .counted; blocks = r .blocks; file = current-known p (r .known) }

@@ -174,15 +174,14 @@ module _ {g : Geometry} {st : Store} {counts₀ counts : List ℕ} {number usedI
   pub table-long : length counts ≡ length counts₀ → length counts ≡ g .N
   table-long e = e ∙ ap length (t .zero) ∙ length-replicate (g .N) 0
 
-  pub serves-known : {s reply : List ℕ} → number ≡ 0 → length counts ≡ g .N → length s ≤ 65536 → 32768 ≤ length reply → Serves g s st counts reply
-  serves-known z n hs hr =
+  pub serves-known : {reply : List ℕ} → number ≡ 0 → length counts ≡ g .N → 32768 ≤ length reply → Serves g st counts reply
+  serves-known z n hr =
       let snd = survey-sound z in
       record {
         shaped = t .shaped;
         sound = snd;
         counted = sound-counted g st counts (t .shaped) snd (surveyed-table g st snd r) n;
         blocks = n;
-        request = hs;
         room = hr;
       }
 
@@ -196,23 +195,22 @@ few-ops minor ops e =
     ltb-false 12 ops (all-clear ((not (eqb minor 2), MINOR-VERS-MISMATCH) ∷ (ltb 12 ops, TOO-MANY-OPS) ∷ []) refl (sym e) .1 .0)
 
 -- where the run of a compound may start: behind the head
-pub runs-all : {g : Geometry} {s : List ℕ} {st : Store} {counts reply : List ℕ} → Serves g s st counts reply → (tag ops at : ℕ) → tag ≤ 1024 → ops ≤ 12
-    → {r : Progress} → r ≡ started at (12 + (tag + padBytes tag)) → RunsAll g s st counts ops reply r
+pub runs-all : {g : Geometry} {st : Store} {counts reply : List ℕ} → Serves g st counts reply → (tag ops at : ℕ) → tag ≤ 1024 → ops ≤ 12
+    → {r : Progress} → r ≡ started at (12 + (tag + padBytes tag)) → RunsAll g st counts ops reply r
 runs-all k tag ops at ht ho {r} e = record {
   shaped = k .shaped;
   sound = k .sound;
   counted = k .counted;
   blocks = k .blocks;
-  request = k .request;
   few = ho;
   start = e ∙ ap (λ (q : Progress). started (q .read) (q .at .at)) (sym e);
   room = omega (arith, k .room, ht, ap (λ (q : Progress). q .at .at) e);
 }
 
 -- all results of a served compound
-pub results-fit : {g : Geometry} {s : List ℕ} {st : Store} {counts reply : List ℕ} → Serves g s st counts reply → (v : List ℕ) → length v ≡ 8 → (h : Header) (at : ℕ)
+pub results-fit : {g : Geometry} {st : Store} {counts reply : List ℕ} → Serves g st counts reply → (v s : List ℕ) → length v ≡ 8 → (h : Header) (at : ℕ)
     → length (concatMap resultBytes (compound (config g v) st s h at)) ≤ 26148
-results-fit {g} {s} {st} k v hv h at =
+results-fit {g} {st} k v s hv h at =
     let d = good g (k .shaped .geometry) in
     compound-results g d v hv st (sound-facts g (block-pos d) st (k .shaped .lengths) (k .sound)) s h at
 

@@ -50,13 +50,11 @@ pub record Named (g : Geometry) (sizes : List ℕ) (p : Position) : Type 0 where
   pub current : fileOf (fileIn (p .current)) < length sizes
   pub saved : fileOf (fileIn (p .saved)) < length sizes
 
--- where an operation of request s is run: with a table of holders, one number for each block, and room for any result at place
--- `at` of the reply
-pub record Runs (g : Geometry) (s : List ℕ) (x : State) (counts reply : List ℕ) (at : ℕ) : Type 0 where
+-- where an operation is run: with a table of holders, one number for each block, and room for any result at place `at` of the reply
+pub record Runs (g : Geometry) (x : State) (counts reply : List ℕ) (at : ℕ) : Type 0 where
   pub known : Known g x
   pub counted : TableTrue (x .store .words) counts
   pub blocks : length counts ≡ g .N
-  pub request : length s ≤ 65536
   pub room : at + 2179 ≤ length reply
 
 -- where a body is written that shows file f: room for any body at place `at`
@@ -99,14 +97,7 @@ pub record Wrote (number status : ℕ) (body : List ℕ) (p : Position) (r : Ans
   pub saved-is : r .after .saved ≡ p .saved
   pub written : Written ((u32 number ++ u32 status) ++ body) (8 + length body) (p .at) before reply (r .after .at)
 
--- where an operation that shows is answered
-pub record Showing (g : Geometry) (x : State) (counts reply : List ℕ) (at : ℕ) : Type 0 where
-  pub known : Known g x
-  pub counted : TableTrue (x .store .words) counts
-  pub blocks : length counts ≡ g .N
-  pub room : at + 2179 ≤ length reply
-
--- and what it leaves
+-- what an operation that shows leaves
 pub record Showed (number : ℕ) (body : List ℕ) (p : Position) (r : Answer) (before reply counts counts′ : List ℕ) : Type 0 where
   pub wrote : Wrote number 0 body p r before reply
   pub table : counts′ ≡ counts
@@ -137,12 +128,11 @@ abbrev pub started : ℕ → ℕ → Progress
 started read out = record { status = 0; count = 0; read = read; at = record { current = Handle.Nothing; saved = Handle.Nothing; at = out } }
 
 -- a compound of at most 12 operations from a sound store on: the reply has room for all results
-pub record RunsAll (g : Geometry) (s : List ℕ) (st : Store) (counts : List ℕ) (ops : ℕ) (reply : List ℕ) (r : Progress) : Type 0 where
+pub record RunsAll (g : Geometry) (st : Store) (counts : List ℕ) (ops : ℕ) (reply : List ℕ) (r : Progress) : Type 0 where
   pub shaped : Shaped g st
   pub sound : sound g st ≡ true
   pub counted : TableTrue (st .words) counts
   pub blocks : length counts ≡ g .N
-  pub request : length s ≤ 65536
   pub few : ops ≤ 12
   pub start : r ≡ started (r .read) (r .at .at)
   pub room : r .at .at + 26148 ≤ length reply
@@ -158,12 +148,11 @@ pub record RanAll (zs : List Event) (st : Store) (at out : ℕ) (r : Progress) (
 -- ---- the whole reply
 
 -- where a compound is served: a sound store with its table of holders, and arguments that no refusal before the header meets
-pub record Serves (g : Geometry) (s : List ℕ) (st : Store) (counts reply : List ℕ) : Type 0 where
+pub record Serves (g : Geometry) (st : Store) (counts reply : List ℕ) : Type 0 where
   pub shaped : Shaped g st
   pub sound : sound g st ≡ true
   pub counted : TableTrue (st .words) counts
   pub blocks : length counts ≡ g .N
-  pub request : length s ≤ 65536
   pub room : 32768 ≤ length reply
 
 -- ---- the call, as its contract names it

@@ -12,7 +12,7 @@ ghost use Rattle.rules.specs.Attributes.{fileAttrs};
 ghost use Rattle.rules.specs.Operation.{attrsReply, readReply, readPlusReply, seekReply};
 ghost use Rattle.rules.specs.Run.{fileOf};
 ghost use Rattle.wire.specs.Attrs.{asks};
-ghost use Rattle.compound.specs.Runner.{fileIn, stateOf, Shows, Seeks, AttrsKnown, Views, Viewed, Showing, Showed};
+ghost use Rattle.compound.specs.Runner.{fileIn, stateOf, Shows, Seeks, AttrsKnown, Runs, Views, Viewed, Showed};
 ghost use Rattle.compound.specs.Does.{viewBytes};
 use crate::answer::Answer;
 use crate::answer::Position;
@@ -219,7 +219,7 @@ pub fn show(
     p: Position,
     reply: &mut [u8],
 ) -> Answer
-    requires { ⌜ Showing (geometryOf g) (stateOf p (tables sizes words mem)) (now counts) (now reply) (p .at) ⌝ }
+    requires { ⌜ Runs (geometryOf g) (stateOf p (tables sizes words mem)) (now counts) (now reply) (p .at) ⌝ }
     ensures { λ r. ⌜ Showed number (viewBytes (geometryOf g) (before sizes words mem) (fileOf (fileIn (p .current))) v) p
         r (now (reply .entry)) (now (reply .exit)) (now (counts .entry)) (now (counts .exit)) ⌝ }
 {

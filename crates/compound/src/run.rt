@@ -90,7 +90,7 @@ fn operation(
     p: Position,
     reply: &mut [u8],
 ) -> Answer
-    requires { ⌜ Runs (geometryOf (c .geometry)) (now s) (stateOf p (tables sizes words mem)) (now counts) (now reply) (p .at) ⌝ }
+    requires { ⌜ Runs (geometryOf (c .geometry)) (stateOf p (tables sizes words mem)) (now counts) (now reply) (p .at) ⌝ }
     ensures { λ r. ⌜ ((next : ℕ) → Answered
         (perform (configOf c) (stateOf p (before sizes words mem)) (meaning (now (s .entry)) o) next)
         r (after sizes words mem) (now (counts .exit)) (p .at) (now (reply .entry)) (now (reply .exit))) ⌝ }
@@ -126,7 +126,7 @@ fn step(
     r: Progress,
     reply: &mut [u8],
 ) -> Progress
-    requires { ⌜ Runs (geometryOf (c .geometry)) (now s) (stateOf (r .at) (tables sizes words mem)) (now counts) (now reply) (r .at .at) × (r .count < 12) ⌝ }
+    requires { ⌜ Runs (geometryOf (c .geometry)) (stateOf (r .at) (tables sizes words mem)) (now counts) (now reply) (r .at .at) × (r .count < 12) ⌝ }
     ensures { λ r′. ⌜ Turned (perform (configOf c) (stateOf (r .at) (before sizes words mem)) (meaning (now (s .entry)) o) (r .read))
         r r′ (after sizes words mem) (now (counts .exit)) (now (reply .entry)) (now (reply .exit)) ⌝ }
 {
@@ -170,7 +170,7 @@ fn turn(
     r: Progress,
     reply: &mut [u8],
 ) -> Progress
-    requires { ⌜ Runs (geometryOf (c .geometry)) (now s) (stateOf (r .at) (tables sizes words mem)) (now counts) (now reply) (r .at .at) × (r .count < 12) ⌝ }
+    requires { ⌜ Runs (geometryOf (c .geometry)) (stateOf (r .at) (tables sizes words mem)) (now counts) (now reply) (r .at .at) × (r .count < 12) ⌝ }
     ensures { λ r′. ⌜ Turned (eventAt (configOf c) (stateOf (r .at) (before sizes words mem)) (now (s .entry)) (r .read))
         r r′ (after sizes words mem) (now (counts .exit)) (now (reply .entry)) (now (reply .exit)) ⌝ }
 {
@@ -202,7 +202,7 @@ pub fn run(
     start: Progress,
     reply: &mut [u8],
 ) -> Progress
-    requires { ⌜ RunsAll (geometryOf (c .geometry)) (now s) (tables sizes words mem) (now counts) ops (now reply) start ⌝ }
+    requires { ⌜ RunsAll (geometryOf (c .geometry)) (tables sizes words mem) (now counts) ops (now reply) start ⌝ }
     ensures { λ r. ⌜ RanAll (reached (configOf c) (fresh (before sizes words mem)) (items (now (s .entry)) ops (start .read)))
         (before sizes words mem) (start .read) (start .at .at) r (after sizes words mem) (now (reply .entry)) (now (reply .exit)) ⌝ }
 {

@@ -99,7 +99,7 @@ fn serve_operations(
     h: Header,
     reply: &mut [u8],
 ) -> Served
-    requires { ⌜ Serves (geometryOf (c .geometry)) (now s) (tables sizes words mem) (now counts) (now reply) × (length (partOf (now s) (h .tag)) ≤ 1024) ⌝ }
+    requires { ⌜ Serves (geometryOf (c .geometry)) (tables sizes words mem) (now counts) (now reply) × (length (partOf (now s) (h .tag)) ≤ 1024) ⌝ }
     ensures { λ r. ⌜ Gives (served (now (reply .entry)) (before sizes words mem) (headerOf (now (s .entry)) h) (h .next .at)
         (compound (configOf c) (before sizes words mem) (now (s .entry)) (headerOf (now (s .entry)) h) (h .next .at)))
         (outcome r reply (after sizes words mem)) ⌝ }

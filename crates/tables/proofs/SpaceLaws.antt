@@ -17,7 +17,7 @@ use Rattle.rules.specs.Attributes.{slotsOf, othersOf, takesRoom, heldAlone, fre
 use Rattle.rules.proofs.CountLaws.{sumTo-ext, sumTo-point, sumTo-cut, count-drop, count-end}
 use Rattle.rules.proofs.EmptyingLaws.{alone-cut, file-parts}
 use Rattle.rules.proofs.PlanLaws.{InPool}
-use Rattle.tables.specs.Tally.{forgot, NotesFit, NotedAll, owesBy}
+use Rattle.tables.specs.Tally.{forgot, Forgettable, NotesFit, NotedAll, owesBy}
 use Rattle.tables.specs.Space.{Counted, blockFree, ForgotLast, heldOnly, ForgotAll, SlotsKnown, SlotsSpace, SpaceKnown, SpaceIs}
 use Rattle.tables.proofs.TallyLaws.{bit-most, count-most, count-ext, pool-top, takes-same}
 use Rattle.tables.proofs.WordLaws.{length-forgot, forgot-at}
@@ -107,8 +107,8 @@ module _ {ws before counts : List ℕ} {n i : ℕ} (known : Counted ws before) (
     holder b h e = omega (arith, left b h, count-drop (holds b) ws i inside, ap bit (eq-eqb (getD ws i 0 / 2) (suc b) e))
 
     -- what `forget_last` asks
-    pub forget-asks : (getD ws i 0 / 2 ≤ length counts) × (0 < getD ws i 0 / 2 → 0 < getD counts (getD ws i 0 / 2 - 1) 0)
-    forget-asks = (pool, λ h. holder (getD ws i 0 / 2 - 1) (omega (arith, pool)) (omega arith))
+    pub forget-asks : Forgettable (getD ws i 0) counts
+    forget-asks = record { pool = pool; held = λ h. holder (getD ws i 0 / 2 - 1) (omega (arith, pool)) (omega arith) }
 
     pub forgetting-more : {m : ℕ} {after : List ℕ} → ForgotLast (getD ws i 0) m counts after → Forgetting ws before after (n + m) (i + 1)
     forgetting-more {m} {after} t =

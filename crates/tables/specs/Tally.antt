@@ -19,6 +19,11 @@ unfoldable pub forgot : ℕ → List ℕ → List ℕ
 forgot zero counts = counts
 forgot (suc b) counts = set counts b (getD counts b 0 - 1)
 
+-- a slot with word w can be taken out of the counts: its block is in the table and has a holder
+pub record Forgettable (w : ℕ) (counts : List ℕ) : Type 0 where
+  pub pool : w / 2 ≤ length counts
+  pub held : 0 < w / 2 → 0 < getD counts (w / 2 - 1) 0
+
 -- words noted one after the other: their blocks are in the table, and no count grows too large
 pub record NotesFit (ws counts : List ℕ) : Type 0 where
   pub pool : InPool (length counts) ws

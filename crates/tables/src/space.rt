@@ -1,8 +1,7 @@
 // The room that slots take, by the table of holders. Taken out of the table, they show the blocks that no other slot holds; then they
 // are put back.
-ghost use Prim.Native.Nat.{_-_, _/_, _<_, _≤_};
-ghost use lib.ListN.{length, getD};
 ghost use Rattle.tables.specs.Lent.{geometryOf};
+ghost use Rattle.tables.specs.Tally.{Forgettable};
 ghost use Rattle.tables.specs.Space.{Counted, ForgotLast, ForgotAll, SlotsKnown, SlotsSpace, SpaceKnown, SpaceIs};
 use crate::geometry::Geometry;
 use crate::tally::count_above_zero;
@@ -18,7 +17,7 @@ pub struct Space {
 
 // One holder less of the block of word w: 1 where it was the last, else 0. A hole gives 0.
 fn forget_last(counts: &mut [u32], w: u32) -> usize
-    requires { ⌜ (w / 2 ≤ length (now counts)) × ((0 < w / 2) → (0 < getD (now counts) (w / 2 - 1) 0)) ⌝ }
+    requires { ⌜ Forgettable w (now counts) ⌝ }
     ensures { λ r. ⌜ ForgotLast w r (now (counts .entry)) (now (counts .exit)) ⌝ }
 {
     forget(counts, w);

@@ -1,14 +1,14 @@
 // A slot word is stored together with its block's counts, so that the table of holders stays true.
 ghost use mathlib.Core.Path.{_≡_};
-ghost use Prim.Native.Nat.{_-_, _/_, _<_, _≤_};
-ghost use lib.ListN.{length, getD};
-ghost use Rattle.tables.specs.Tally.{forgot};
+ghost use Prim.Native.Nat.{_/_, _<_, _≤_};
+ghost use lib.ListN.{length};
+ghost use Rattle.tables.specs.Tally.{forgot, Forgettable};
 ghost use Rattle.tables.specs.Tables.{TableTrue, Stored};
 use crate::tally::note;
 
 // One holder less of the block of word w; a hole has none.
 pub fn forget(counts: &mut [u32], w: u32)
-    requires { ⌜ (w / 2 ≤ length (now counts)) × ((0 < w / 2) → (0 < getD (now counts) (w / 2 - 1) 0)) ⌝ }
+    requires { ⌜ Forgettable w (now counts) ⌝ }
     ensures { λ _. ⌜ now (counts .exit) ≡ forgot (w / 2) (now (counts .entry)) ⌝ }
 {
     let k = (w / 2) as usize;

@@ -59,11 +59,6 @@ returns-2 c =
     (sym (t .before .error .ensures st refl) ∙ t .if1 .left) (s .pre .known) (s .pre .counted) (w .without-body2 .ensures) refl
     (ap (doesOf (geometryOf (a .c .geometry)) (a .s .now) (a .p) st) (sym (m .current .given .1)) ∙ d .does-of .ensures .is _ st refl)
 
-show-requires : tie.Need-show-requires
-show-requires c κs =
-    let s = c .before .before .before .before .before .before .before .before .before .before .before .before .before .before .before .before .before .before .before .before .before in
-    record { known = s .pre .known; counted = s .pre .counted; blocks = s .pre .blocks; room = s .pre .room }
-
 returns-3 : tie.Need-returns-3
 returns-3 c =
     let w = c .before .before .before .before in
@@ -99,7 +94,7 @@ operation-spec =
     tie.close
     (tie.spec
     (λ c κs. search needs) error-requires (λ c κs. search needs) (λ c. search needs) (λ c. search needs) returns
-    does-of-requires (λ c. search needs) (λ c κs. search needs) (λ c. search needs) show-requires
+    does-of-requires (λ c. search needs) (λ c κs. search needs) (λ c. search needs) (λ c κs. search needs)
     (λ c. search needs) (λ c κs. search needs) apply-requires edited-requires (λ c. search needs) (λ c. search needs) returns-2
     (λ c. search needs) (λ c. search needs) (λ c. search needs) (λ c. search needs) (λ c. search needs) returns-3
     (λ c. search needs) (λ c. search needs) (λ c. search needs) (λ c. search needs) (λ c. search needs) returns-4)

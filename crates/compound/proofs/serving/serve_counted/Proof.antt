@@ -46,7 +46,7 @@ serve-operations-requires c κs =
     let s = y .before .before .before .before .before .before .before .before .before .before .before in
     let t = s .pre in (
       serves-known t (y .survey-tables .ensures) (k .before .before .before .if1 .left) (table-long t (y .survey-tables .ensures) (y .survey-tables .kept .1 .1 .1 .1 .0))
-          (k .before .before .if2 .left) (k .before .if3 .left),
+          (k .before .if3 .left),
       tag-short _ (sym (k .header .ensures) ∙ ap (ofHeader (s .args .s .now)) (d .h .given .1)),
     )
 

@@ -48,7 +48,7 @@ returns-2 c =
     let s = k .before .before .before .before .before .before .before .before in
     served-some _ _ _ _ _ _ _ (sym (e .header-status .ensures) ∙ d .before .if1 .left)
     (head-place _ _ _ (ap length (k .part .ensures .bytes-are)) (d .padding .ensures)) (rw (start .start .ensures) at (r .run .ensures))
-    (omega (arith, s .pre .0 .room, s .pre .1, ap length (k .part .ensures .bytes-are), d .padding .ensures)) (results-fit (s .pre .0) _ (length-u64 _) _ _)
+    (omega (arith, s .pre .0 .room, s .pre .1, ap length (k .part .ensures .bytes-are), d .padding .ensures)) (results-fit (s .pre .0) _ _ (length-u64 _) _ _)
     (rw (k .part .ensures .bytes-are) at (h .put-head2 .ensures))
 
 pub serve-operations-spec : {M : Type 1} → statement M

@@ -8,7 +8,7 @@ returns : tie.Need-returns
 returns c = forgot-none _ _ (c .if1 .taken)
 
 sub-counts : tie.Need-sub-counts
-sub-counts c = let s = c .before .before in omega (arith, s .pre .1 (omega arith))
+sub-counts c = let s = c .before .before in omega (arith, s .pre .held (omega arith))
 
 returns-2 : tie.Need-returns-2
 returns-2 c = forgot-some _ _ (c .before .if1 .left)

@@ -6,7 +6,7 @@ use Rattle.tables.proofs.words.set_word.Tie as tie
 forget-requires : tie.Need-forget-requires
 forget-requires c κs =
     let s = c .before .before .before .before in
-    (s .pre .0 .pool (s .args .i), held-once _ _ (s .pre .0) (s .args .i) (s .pre .1 .0))
+    record { pool = s .pre .0 .pool (s .args .i); held = held-once _ _ (s .pre .0) (s .args .i) (s .pre .1 .0) }
 
 note-requires : tie.Need-note-requires
 note-requires c κs =

@@ -155,10 +155,10 @@ pub p6-seen : OK (event 9 second) × (OK (event 11 second) × ReadsBack 0 0 0 1 
 unfolding S.rules
 p6-seen = (refl, (refl, refl))
 
--- ---- P5, then file f is emptied: PUTFH, ALLOCATE; PUTFH, WRITE; PUTFH, SAVEFH, PUTFH, CLONE; PUTFH, DEALLOCATE
+-- ---- P5, then a file is emptied: PUTFH, ALLOCATE; PUTFH, WRITE; PUTFH, SAVEFH, PUTFH, CLONE; PUTFH, DEALLOCATE of n bytes
 
-abbrev emptied : ℕ → List Event
-emptied f = events 3 (S.allocate 1024 ∷ S.write 0 (7 ∷ []) ∷ S.clone 512 ∷ (S.on f ∷ DEALLOCATE zeroId 0 512 ∷ []) ∷ [])
+abbrev emptying : ℕ → ℕ → Event
+emptying f n = event 9 (events 3 (S.allocate 1024 ∷ S.write 0 (7 ∷ []) ∷ S.clone 512 ∷ (S.on f ∷ DEALLOCATE zeroId 0 n ∷ []) ∷ []))
 
 -- used + owed before and after, what space_freed said in blocks, and what other files owed for the file
 abbrev given : ℕ → Event → List ℕ
@@ -166,11 +166,14 @@ given f z =
     let ws = z .before .store .words in
     need ws ∷ need (z .after .store .words) ∷ spaceFreed (S.geometry 3) ws f / 512 ∷ owedForFile (S.geometry 3) ws f ∷ []
 
-pub p5-empties : Empties (event 9 (emptied 1)) 1
+pub p5-empties : Empties (emptying 0 1024) 0 × Empties (emptying 1 512) 1
 unfolding S.rules
-p5-empties = record { id = zeroId; n = 512; deallocate = ((_, refl), refl); whole = omega arith; done = refl }
+p5-empties = (
+  record { id = zeroId; n = 1024; deallocate = ((_, refl), refl); whole = omega arith; done = refl },
+  record { id = zeroId; n = 512; deallocate = ((_, refl), refl); whole = omega arith; done = refl },
+)
 
--- file 1 frees nothing, but file 0's reserved slot 0 has its block alone then
-pub p5-emptied : given 1 (event 9 (emptied 1)) ≡ 3 ∷ 2 ∷ 0 ∷ 1 ∷ []
+-- file 0 has its block with file 1 and frees what its two reserved slots owe; file 1 frees nothing, but file 0's reserved slot 0 has its block alone then
+pub p5-emptied : (given 0 (emptying 0 1024) ≡ 3 ∷ 1 ∷ 2 ∷ 0 ∷ []) × (given 1 (emptying 1 512) ≡ 3 ∷ 2 ∷ 0 ∷ 1 ∷ [])
 unfolding S.rules
-p5-emptied = refl
+p5-emptied = (refl, refl)

@@ -27,7 +27,7 @@ struct lent {
 static struct tables store;
 static uint8_t verifier[SERVER_VERIFIER], request[SERVER_MAX_REQUEST + 1], reply[SERVER_MIN_REPLY];
 static uint8_t page[BLOCK_SIZE + 1];
-static uint64_t counts[2], shown[3];
+static uint64_t counts[2], told[3], shown[3];
 static int differences;
 
 static void expect(int same, const char *what)
@@ -41,6 +41,11 @@ static void expect(int same, const char *what)
 static int counts_are(uint64_t first, uint64_t second)
 {
     return counts[0] == first && counts[1] == second;
+}
+
+static int told_is(uint64_t read, uint64_t written, uint64_t place)
+{
+    return told[0] == read && told[1] == written && told[2] == place;
 }
 
 static int shown_is(uint64_t which, uint64_t start, uint64_t length)
@@ -75,9 +80,9 @@ static uint32_t slot_view(uint64_t files, size_t mem_len, size_t page_len, uint6
 static uint32_t serve(struct lent a)
 {
     memset(reply, UNTOUCHED, sizeof reply);
-    memset(counts, UNTOUCHED, sizeof counts);
+    memset(told, UNTOUCHED, sizeof told);
     return compound_serve(a.files, SLOTS, BLOCKS, BLOCK_SIZE, store.sizes, FILES, store.words, FILES * SLOTS, store.mem, a.mem_len,
-        verifier, a.verifier_len, request, a.request_len, reply, a.reply_len, counts);
+        verifier, a.verifier_len, request, a.request_len, reply, a.reply_len, told);
 }
 
 static struct lent whole(size_t request_len)
@@ -109,7 +114,7 @@ static void frame(const char *in, const char *out, const char *what)
     uint8_t want[128];
     size_t n = bytes_of(in, request), m = bytes_of(out, want);
     expect(serve(whole(n)) == 0, what);
-    expect(counts_are(n, m), what);
+    expect(told_is(n, m, SERVER_NOWHERE), what);
     expect(memcmp(reply, want, m) == 0 && untouched_from(m), what);
 }
 
@@ -150,6 +155,20 @@ static void showed(void)
     store.words[3 * SLOTS + 2] = 2;
 }
 
+/* A PUTFH whose handle has one byte and a pad with a wrong byte at place 22, cut after each byte. Up to there the first missing byte
+   is told: of the header, with refusal 6, of the operation behind it. */
+static void misread(void)
+{
+    size_t length, n = bytes_of("000000000000000200000001000000160000000161000100", request);
+    for (length = 0; length <= n; length++) {
+        size_t place = length < 22 ? length : 22;
+        if (length < 12)
+            expect(serve(whole(length)) == 6 && told_is(0, 0, place), "a header cut off");
+        else
+            expect(serve(whole(length)) == 0 && told_is(12, 20, place), "an operation that does not decode");
+    }
+}
+
 /* A refused view of a slot shows the page's empty start. */
 static void hides(uint32_t number, uint32_t answer, const char *what)
 {
@@ -172,11 +191,11 @@ static void hidden(void)
     page[BLOCK_SIZE - 1] = 0;
 }
 
-/* A refused call to serve answers its number and zero counts and changes nothing. */
-static void refuses(uint32_t number, struct lent a, const char *what)
+/* A refused call to serve answers its number, zero counts and the place, and changes nothing. */
+static void refuses(uint32_t number, struct lent a, uint64_t place, const char *what)
 {
     struct tables before = store;
-    expect(serve(a) == number && counts_are(0, 0), what);
+    expect(serve(a) == number && told_is(0, 0, place), what);
     expect(untouched_from(0) && memcmp(&store, &before, sizeof store) == 0, what);
 }
 
@@ -192,26 +211,27 @@ static void refused(void)
     expect(count_blocks(UINT64_MAX, length) == 1 && counts_are(0, 0), "counts refused: 1");
     expect(count_blocks(FILES, 0) == 2 && counts_are(0, 0), "counts refused: 2");
     a.files = FILES + 64;
-    refuses(1, a, "refusal 1");
+    refuses(1, a, SERVER_NOWHERE, "refusal 1");
     b.mem_len--;
-    refuses(2, b, "refusal 2: block memory");
+    refuses(2, b, SERVER_NOWHERE, "refusal 2: block memory");
     c.verifier_len--;
-    refuses(2, c, "refusal 2: verifier");
-    refuses(4, whole(SERVER_MAX_REQUEST + 1), "refusal 4");
+    refuses(2, c, SERVER_NOWHERE, "refusal 2: verifier");
+    refuses(4, whole(SERVER_MAX_REQUEST + 1), SERVER_NOWHERE, "refusal 4");
     d.reply_len--;
-    refuses(5, d, "refusal 5");
-    refuses(6, whole(11), "refusal 6");
+    refuses(5, d, SERVER_NOWHERE, "refusal 5");
+    refuses(6, whole(11), 11, "refusal 6");
     store.words[0] = 2 * (BLOCKS + 1);
     expect(soundness(FILES, length) == 3, "soundness refused: 3");
     expect(count_blocks(FILES, length) == 3 && counts_are(0, 0), "counts refused: 3");
     hides(3, slot_view(FILES, length, BLOCK_SIZE, 3, 2), "view refused: 3, store");
-    refuses(3, good, "refusal 3");
+    refuses(3, good, SERVER_NOWHERE, "refusal 3");
 }
 
 static void *run(void *nothing)
 {
     served();
     showed();
+    misread();
     hidden();
     refused();
     return nothing;

@@ -36,6 +36,7 @@
 #define SERVER_VERIFIER 8
 #define SERVER_MAX_REQUEST 65536
 #define SERVER_MIN_REPLY 32768
+#define SERVER_NOWHERE 4294967295u
 
 #ifdef __cplusplus
 extern "C" {
@@ -66,13 +67,20 @@ uint32_t store_slot_view(uint64_t files, uint64_t slots, uint64_t blocks, uint64
     const uint64_t *sizes, size_t sizes_len, const uint32_t *words, size_t words_len, const uint8_t *mem, size_t mem_len,
     const uint8_t *page, size_t page_len, uint64_t file, uint64_t slot, uint64_t shown[3]);
 
-/* Runs the COMPOUND of the request on the store and writes the reply. Sets counts to the bytes read of the request and written of
-   the reply; the reply's other bytes stay as they are. verifier has SERVER_VERIFIER bytes and is what WRITE and COPY answer.
+/* Runs the COMPOUND of the request on the store and writes the reply; the reply's other bytes stay as they are. verifier has
+   SERVER_VERIFIER bytes and is what WRITE and COPY answer. Sets told:
+
+     told[0]  the bytes read of the request; 0 on a refusal
+     told[1]  the bytes written of the reply; 0 on a refusal
+     told[2]  where the request went wrong, counted from 0 at its first byte: the first missing byte, a pad byte that is not zero, or the
+              first byte of a value out of range, whichever is met first. Told where the last result's status is BADXDR (10036), and
+              with refusal 6; else SERVER_NOWHERE
+
    Answers 0 to 6. */
 uint32_t compound_serve(uint64_t files, uint64_t slots, uint64_t blocks, uint64_t block_size,
     uint64_t *sizes, size_t sizes_len, uint32_t *words, size_t words_len, uint8_t *mem, size_t mem_len,
     const uint8_t *verifier, size_t verifier_len, const uint8_t *request, size_t request_len,
-    uint8_t *reply, size_t reply_len, uint64_t counts[2]);
+    uint8_t *reply, size_t reply_len, uint64_t told[3]);
 
 #ifdef __cplusplus
 }

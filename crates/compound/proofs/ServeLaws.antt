@@ -1,7 +1,7 @@
 -- The call that serves a compound: its refusals one by one, and the reply of the operations reached.
 use Prim.Native.Nat.{ℕ, zero, suc, _+_, _≤_, _<_}
 use mathlib.Core.Path.{_≡_, refl, sym, ap, _∙_}
-use mathlib.Core.Bool.{Bool, true, false, not}
+use mathlib.Core.Bool.{Bool, true, false, cond, not}
 use mathlib.Core.List.{List, [], _∷_, _++_, append-nil}
 use mathlib.Core.Logic.{_≢_}
 use native.Mathlib.Omega.{arith}
@@ -14,18 +14,21 @@ use Rattle.xdr.specs.Encode.{opaqueSize, padBytes, concatMap}
 use Rattle.xdr.specs.Decode.{got, fault}
 use Rattle.rules.specs.Lists.{first}
 use Rattle.rules.specs.Store.{Geometry, goodGeometry, Store, goodLengths, sound}
-use Rattle.rules.specs.Operation.{MINOR-VERS-MISMATCH, TOO-MANY-OPS, items, Header, header}
+use Rattle.rules.specs.Operation.{MINOR-VERS-MISMATCH, TOO-MANY-OPS, BADXDR, items, Header, header}
+use Rattle.rules.specs.Fault.{NOWHERE, faultAt}
 use Rattle.rules.specs.Run.{reached, config}
-use Rattle.rules.specs.Calls.{storeRefusal, resultBytes, replyHead, replyBytes, lastStatus, fresh, headerStatus, compound, Outcome, Gives, refuse, served, refusal, Call, answer, Contract}
+use Rattle.rules.specs.Calls.{storeRefusal, resultBytes, replyHead, replyBytes, lastStatus, fresh, headerStatus, compound, Outcome, Gives, withPlace, refuse, served, refusal, Call, answerNoPlace, lastFault, placeOf, answer, Contract}
 use Rattle.tables.specs.Survey.{TableReady, Surveyed}
 use Rattle.rules.proofs.GeometryLaws.{good, block-pos}
 use Rattle.rules.proofs.SoundLaws.{sound-facts}
 use Rattle.rules.proofs.FirstLaws.{all-clear}
 use Rattle.rules.proofs.ItemLaws.{header-reads}
+use Rattle.rules.proofs.PlaceProof.{header-decodes}
 use Rattle.rules.proofs.ReplyLaws.{compound-results}
 use Rattle.tables.proofs.SurveyLaws.{sound-counted, surveyed-table}
 use Rattle.compound.specs.declared.run.Progress.{Progress}
-use Rattle.compound.specs.Runner.{Serves, started, RunsAll, RanAll}
+use Rattle.compound.specs.Runner.{Serves, started, RunsAll, RanAll, ServedRight, refusedWith}
+use Rattle.compound.specs.declared.serving.Served.{Served}
 use Rattle.xdr.proofs.BytesLaws.{written-before}
 
 -- ---- the reply
@@ -47,8 +50,8 @@ module _ (g : Geometry) (v s : List ℕ) (st : Store) (buf : List ℕ) (h : Head
 
   -- a compound that is refused as a whole
   pub served-none : (e : ℕ) → headerStatus h ≡ e → e ≢ 0 → {n w : ℕ} {reply : List ℕ} → Written (replyHead .write (e, (h .tag, 0))) n 0 buf reply w
-      → Gives (served buf st h at (compound (config g v) st s h at)) (record { number = 0; read = at; written = w; reply = reply; store = st })
-  unfolding served replyBytes
+      → ServedRight (config g v) st s h at buf (record { number = 0; read = at; written = w; place = NOWHERE; reply = reply; store = st })
+  unfolding served replyBytes lastFault
   served-none e q n {reply = reply} w =
       let is : replyBytes (headerStatus h) (h .tag) [] ≡ replyHead .write (e, (h .tag, 0)) = rw (q, replyBytes) (append-nil (replyHead .write (e, (h .tag, 0)))) in
       let all = whole-reply w in
@@ -56,6 +59,7 @@ module _ (g : Geometry) (v s : List ℕ) (st : Store) (buf : List ℕ) (h : Head
         number = refl;
         read = refl;
         written = all .1 ∙ ap length (sym is);
+        place = rw (ne-eqb (headerStatus h) BADXDR (header-decodes h));
         reply = all .0 ∙ ap (λ (l : List ℕ). l ++ drop (length l) buf) (sym is);
         sizes = refl;
         words = refl;
@@ -63,13 +67,14 @@ module _ (g : Geometry) (v s : List ℕ) (st : Store) (buf : List ℕ) (h : Head
       })
 
   -- the head in front of the results of a run
-  pub served-some : headerStatus h ≡ 0 → {out n w : ℕ} {r : Progress} {after : Store} {mid reply : List ℕ} → out ≡ n
+  pub served-some : headerStatus h ≡ 0 → {out n w p : ℕ} {r : Progress} {after : Store} {mid reply : List ℕ} → out ≡ n
       → RanAll (reached (config g v) (fresh st) (items s (h .ops) at)) st at out r after buf mid → out + 26148 ≤ length buf
       → length (concatMap resultBytes (compound (config g v) st s h at)) ≤ 26148
       → Written (replyHead .write (r .status, (h .tag, r .count))) n 0 mid reply w
-      → Gives (served buf st h at (compound (config g v) st s h at)) (record { number = 0; read = r .read; written = r .at .at; reply = reply; store = after })
-  unfolding served replyBytes
-  served-some q {out} {n} {w} {r} e run room most head =
+      → p ≡ cond (eqb (r .status) BADXDR) (faultAt s (r .read)) NOWHERE
+      → ServedRight (config g v) st s h at buf (record { number = 0; read = r .read; written = r .at .at; place = p; reply = reply; store = after })
+  unfolding served replyBytes lastFault
+  served-some q {out} {n} {w} {p} {r} e run room most head place =
       let zs = reached (config g v) (fresh st) (items s (h .ops) at) in
       let from : 0 + n ≡ out = zero-add n ∙ sym e in
       let both = written-before from (omega (arith, room, rw (events-some q) at most)) (run .written) head in
@@ -80,61 +85,73 @@ module _ (g : Geometry) (v s : List ℕ) (st : Store) (buf : List ℕ) (h : Head
         number = refl;
         read = run .read-is;
         written = all .1 ∙ ap length (sym is);
+        place = place ∙ rw (q, run .status-is, run .read-is);
         reply = all .0 ∙ ap (λ (l : List ℕ). l ++ drop (length l) buf) (sym is);
         sizes = ap (λ (u : Store). u .sizes) (run .store-is);
         words = ap (λ (u : Store). u .words) (run .store-is);
         mem = ap (λ (u : Store). u .mem) (run .store-is);
       })
 
+-- ---- the place of a fault
+
+module _ (status p : ℕ) where
+  pub no-fault : status ≢ BADXDR → NOWHERE ≡ cond (eqb status BADXDR) p NOWHERE
+  no-fault n = rw (ne-eqb status BADXDR n)
+
+  pub the-fault : {q : ℕ} → status ≡ BADXDR → q ≡ p → q ≡ cond (eqb status BADXDR) p NOWHERE
+  the-fault e h = h ∙ rw (eq-eqb status BADXDR e)
+
 -- ---- the refusals
 
 refused-at : (c : Call) (st : Store) (k : ℕ) → refusal c st ≡ k → k ≢ 0 → answer c st ≡ refuse k (c .buffer) st
-unfolding answer
+unfolding answer answerNoPlace placeOf
 refused-at c st zero e n = absurd (n refl)
-refused-at c st (suc k) e n = rw (e, answer)
+refused-at c st (suc k) e n = rw (e, answerNoPlace, placeOf)
 
-refuse-gives : {want : Outcome Store} {k number read written : ℕ} {buf : List ℕ} {st : Store} → want ≡ refuse k buf st → (number ≡ k) × ((read ≡ 0) × (written ≡ 0))
-    → Gives want (record { number = number; read = read; written = written; reply = buf; store = st })
-refuse-gives e r = rw e (record { number = r .0; read = r .1 .0; written = r .1 .1; reply = refl; sizes = refl; words = refl; mem = refl })
+-- what the code answers, the buffer and the tables as before
+abbrev left : List ℕ → Store → Served → Outcome Store
+left buf st r = record { number = r .number; read = r .read; written = r .written; place = r .place; reply = buf; store = st }
+
+refuse-gives : {want : Outcome Store} {k p : ℕ} {buf : List ℕ} {st : Store} {r : Served} → want ≡ withPlace p (refuse k buf st) → r ≡ refusedWith k p → Gives want (left buf st r)
+refuse-gives e h = rw (e, h) (record { number = refl; read = refl; written = refl; place = refl; reply = refl; sizes = refl; words = refl; mem = refl })
 
 module _ (g : Geometry) (v s buf : List ℕ) (st : Store) where
   abbrev call : Call
   call = record { config = config g v; request = s; buffer = buf }
 
   -- a call refused with number k, as the code answers it
-  abbrev Refuses : ℕ → Type 0
-  Refuses k = (number read written : ℕ) → (number ≡ k) × ((read ≡ 0) × (written ≡ 0))
-      → Contract call st (record { number = number; read = read; written = written; reply = buf; store = st })
+  abbrev Refuses : ℕ → ℕ → Type 0
+  Refuses k p = (r : Served) → r ≡ refusedWith k p → Contract call st (left buf st r)
 
-  by : (k : ℕ) → refusal call st ≡ k → k ≢ 0 → Refuses k
-  by k e n number read written r = refuse-gives (refused-at call st k e n) r
+  by : (k : ℕ) → refusal call st ≡ k → k ≢ 0 → Refuses k NOWHERE
+  by k e n r h = refuse-gives (refused-at call st k e n) h
 
-  pub refused-1 : goodGeometry g ≡ false → Refuses 1
+  pub refused-1 : goodGeometry g ≡ false → Refuses 1 NOWHERE
   unfolding refusal
   refused-1 e = by 1 (rw e) (λ q. omega (arith, q))
 
   module _ (geometry : goodGeometry g ≡ true) where
-    pub refused-2 : goodLengths g st ≡ false → Refuses 2
+    pub refused-2 : goodLengths g st ≡ false → Refuses 2 NOWHERE
     unfolding refusal
     refused-2 e = by 2 (rw (geometry, e)) (λ q. omega (arith, q))
 
     module _ (lengths : goodLengths g st ≡ true) where
-      pub refused-2-verifier : length v ≢ 8 → Refuses 2
+      pub refused-2-verifier : length v ≢ 8 → Refuses 2 NOWHERE
       unfolding refusal
       refused-2-verifier n = by 2 (rw (geometry, lengths, ne-eqb (length v) 8 n)) (λ q. omega (arith, q))
 
       module _ (verifier : length v ≡ 8) where
-        pub refused-3 : sound g st ≡ false → Refuses 3
+        pub refused-3 : sound g st ≡ false → Refuses 3 NOWHERE
         unfolding refusal
         refused-3 e = by 3 (rw (geometry, lengths, eq-eqb (length v) 8 verifier, e)) (λ q. omega (arith, q))
 
         module _ (is-sound : sound g st ≡ true) where
-          pub refused-4 : 65536 < length s → Refuses 4
+          pub refused-4 : 65536 < length s → Refuses 4 NOWHERE
           unfolding refusal
           refused-4 l = by 4 (rw (geometry, lengths, eq-eqb (length v) 8 verifier, is-sound, lt-ltb 65536 (length s) l)) (λ q. omega (arith, q))
 
           module _ (short : length s ≤ 65536) where
-            pub refused-5 : length buf < 32768 → Refuses 5
+            pub refused-5 : length buf < 32768 → Refuses 5 NOWHERE
             unfolding refusal
             refused-5 l =
                 by 5 (rw (geometry, lengths, eq-eqb (length v) 8 verifier, is-sound, le-ltb 65536 (length s) short, lt-ltb (length buf) 32768 l)) (λ q. omega (arith, q))
@@ -144,13 +161,13 @@ module _ (g : Geometry) (v s buf : List ℕ) (st : Store) where
               unfolding refusal
               accepted = rw (geometry, lengths, eq-eqb (length v) 8 verifier, is-sound, le-ltb 65536 (length s) short, le-ltb (length buf) 32768 room)
 
-              pub refused-6 : {p : ℕ} → header s 0 ≡ fault p → Refuses 6
-              unfolding answer
-              refused-6 e number read written r = refuse-gives (rw (accepted, e, answer)) r
+              pub refused-6 : {p : ℕ} → header s 0 ≡ fault p → Refuses 6 p
+              unfolding answer answerNoPlace placeOf
+              refused-6 e r h = refuse-gives (rw (accepted, e, answerNoPlace, placeOf)) h
 
-              pub serves : {h : Header} {at : ℕ} {o : Outcome Store} → header s 0 ≡ got h at → Gives (served buf st h at (compound (config g v) st s h at)) o → Contract call st o
-              unfolding answer
-              serves e d = rw (accepted, e, answer) d
+              pub serves : {h : Header} {at : ℕ} {o : Outcome Store} → header s 0 ≡ got h at → ServedRight (config g v) st s h at buf o → Contract call st o
+              unfolding answer answerNoPlace placeOf
+              serves e d = rw (accepted, e, answerNoPlace, placeOf) d
 
 -- ---- the survey
 

@@ -8,9 +8,9 @@ use lib.ListN.{length, getD}
 use Rattle.xdr.specs.Bytes.{Written}
 use Rattle.xdr.specs.Encode.{u32, u64, concatMap}
 use Rattle.rules.specs.Store.{Geometry, goodGeometry, Store, sound}
-use Rattle.rules.specs.Operation.{op, bad, itemAt}
+use Rattle.rules.specs.Operation.{op, bad, itemAt, Header}
 use Rattle.rules.specs.Run.{State, fileOf, Config, config, Event, failed, perform}
-use Rattle.rules.specs.Calls.{resultBytes, placeAfter, lastPlace, lastStatus, lastStore, Call, Outcome}
+use Rattle.rules.specs.Calls.{compound, resultBytes, placeAfter, lastPlace, lastStatus, lastStore, Call, Outcome, withPlace, served, lastFault, Gives}
 use Rattle.store.specs.Readable.{Placed}
 use Rattle.tables.specs.Lent.{geometryOf, Held}
 use Rattle.tables.specs.Tables.{Shaped, TableTrue}
@@ -155,10 +155,20 @@ pub record Serves (g : Geometry) (st : Store) (counts reply : List ℕ) : Type 0
   pub blocks : length counts ≡ g .N
   pub room : 32768 ≤ length reply
 
+-- a compound served: what the rules say of it, the place of a fault with it
+abbrev pub ServedRight : Config → Store → List ℕ → Header → ℕ → List ℕ → Outcome Store → Type 0
+ServedRight c st s h at buf o =
+    let zs = compound c st s h at in
+    Gives (withPlace (lastFault s h at zs) (served buf st h at zs)) o
+
+-- a refusal
+abbrev pub refusedWith : ℕ → ℕ → Served
+refusedWith number place = record { number = number; read = 0; written = 0; place = place }
+
 -- ---- the call, as its contract names it
 
 abbrev pub call : Config → Held → Held → Call
 call c s reply = record { config = c; request = s .entry .now; buffer = reply .entry .now }
 
 abbrev pub outcome : Served → Held → Store → Outcome Store
-outcome r reply st = record { number = r .number; read = r .read; written = r .written; reply = reply .exit .now; store = st }
+outcome r reply st = record { number = r .number; read = r .read; written = r .written; place = r .place; reply = reply .exit .now; store = st }

@@ -187,6 +187,7 @@ fn turn(
             step(c, sizes, words, mem, counts, s, o, moved, reply)
         }
         Item::Bad(number, status) => stop(number, status, r, reply),
+        Item::Fault(number, _) => stop(number, Operation::BADXDR, r, reply),
     }
 }
 

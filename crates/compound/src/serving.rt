@@ -1,6 +1,6 @@
 // The call that serves a compound: the refusals in their order, then the operations, then the reply's head.
 ghost use mathlib.Core.Path.{_≡_};
-ghost use mathlib.Core.Bool.{not};
+ghost use mathlib.Core.Bool.{cond, not};
 ghost use lib.Dec.{ltb, eqb};
 ghost use mathlib.Core.List.{[], _∷_};
 ghost use Prim.Native.Nat.{_+_, _≤_};
@@ -9,13 +9,14 @@ ghost use Rattle.xdr.specs.Bytes.{partOf, Written};
 ghost use Rattle.xdr.specs.Encode.{u64, opaqueSize};
 ghost use Rattle.tables.specs.Lent.{geometryOf, after, before, tables};
 ghost use Rattle.rules.specs.Lists.{first};
-ghost use Rattle.rules.specs.Operation.{MINOR-VERS-MISMATCH, TOO-MANY-OPS};
-ghost use Rattle.rules.specs.Calls.{compound, replyHead, Gives, served, Contract};
+ghost use Rattle.rules.specs.Operation.{MINOR-VERS-MISMATCH, TOO-MANY-OPS, BADXDR};
+ghost use Rattle.rules.specs.Fault.{NOWHERE, faultAt};
+ghost use Rattle.rules.specs.Calls.{replyHead, Contract};
 ghost use Rattle.rules.specs.Run.{config};
 ghost use Rattle.tables.specs.Tables.{Shaped};
 ghost use Rattle.tables.specs.Survey.{TableFits, TableReady};
 ghost use Rattle.wire.specs.Decoded.{headerOf};
-ghost use Rattle.compound.specs.Runner.{configOf, Serves, call, outcome};
+ghost use Rattle.compound.specs.Runner.{configOf, Serves, ServedRight, refusedWith, call, outcome};
 use crate::answer::Answer;
 use crate::run::Config;
 use crate::run::Progress;
@@ -24,16 +25,19 @@ use tables::Counts;
 use tables::Geometry;
 use wire::Header;
 use wire::HeaderRead;
+use wire::Item;
 use wire::Operation;
 use wire::header;
+use wire::item;
 use xdr::Cursor;
 use xdr::Long;
 
-// A refusal with zero counts, or 0 with the bytes read and written.
+// A refusal with zero counts, or 0 with the bytes read and written; and the place where the request went wrong.
 pub struct Served {
     pub number: u32,
     pub read: usize,
     pub written: usize,
+    pub place: usize,
 }
 
 impl Served {
@@ -53,12 +57,24 @@ impl Served {
     pub const MIN_REPLY: usize = 32768;
 
     pub fn refused(number: u32) -> Self
-        ensures { λ r. ⌜ (r .number ≡ number) × ((r .read ≡ 0) × (r .written ≡ 0)) ⌝ }
+        ensures { λ r. ⌜ r ≡ refusedWith number NOWHERE ⌝ }
     {
         Served {
             number,
             read: 0,
             written: 0,
+            place: Item::NOWHERE,
+        }
+    }
+
+    pub fn bad_header(place: usize) -> Self
+        ensures { λ r. ⌜ r ≡ refusedWith 6 place ⌝ }
+    {
+        Served {
+            number: Served::BAD_HEADER,
+            read: 0,
+            written: 0,
+            place,
         }
     }
 }
@@ -87,6 +103,16 @@ fn put_head(reply: &mut [u8], status: u32, tag: &[u8], count: u32) -> usize
     xdr::put_u32(reply, next, count)
 }
 
+// The fault of the operation at place `at`, the last one reached, where its status is BADXDR.
+fn last_fault(s: &[u8], status: u32, at: usize) -> usize
+    ensures { λ r. ⌜ r ≡ cond (eqb status BADXDR) (faultAt (now (s .entry)) at) NOWHERE ⌝ }
+{
+    if status != Operation::BADXDR {
+        return Item::NOWHERE;
+    }
+    item(s, Cursor::new(at)).fault()
+}
+
 // A compound whose header was read, on a store that was found sound. The results are written first: their place is known from the
 // tag, their number and the last status are not.
 fn serve_operations(
@@ -100,9 +126,8 @@ fn serve_operations(
     reply: &mut [u8],
 ) -> Served
     requires { ⌜ Serves (geometryOf (c .geometry)) (tables sizes words mem) (now counts) (now reply) × (length (partOf (now s) (h .tag)) ≤ 1024) ⌝ }
-    ensures { λ r. ⌜ Gives (served (now (reply .entry)) (before sizes words mem) (headerOf (now (s .entry)) h) (h .next .at)
-        (compound (configOf c) (before sizes words mem) (now (s .entry)) (headerOf (now (s .entry)) h) (h .next .at)))
-        (outcome r reply (after sizes words mem)) ⌝ }
+    ensures { λ r. ⌜ ServedRight (configOf c) (before sizes words mem) (now (s .entry)) (headerOf (now (s .entry)) h) (h .next .at)
+        (now (reply .entry)) (outcome r reply (after sizes words mem)) ⌝ }
 {
     let d = h.tag;
     let tag = xdr::part(s, d);
@@ -113,6 +138,7 @@ fn serve_operations(
             number: 0,
             read: h.next.at,
             written,
+            place: Item::NOWHERE,
         };
     }
     let out = 12 + (tag.len() + xdr::padding(tag.len()));
@@ -123,6 +149,7 @@ fn serve_operations(
         number: 0,
         read: r.read,
         written: r.at.at,
+        place: last_fault(s, r.status, r.read),
     }
 }
 
@@ -149,10 +176,10 @@ fn serve_counted(
     if reply.len() < Served::MIN_REPLY {
         return Served::refused(Served::SHORT_REPLY);
     }
-    let HeaderRead::Found(h) = header(s) else {
-        return Served::refused(Served::BAD_HEADER);
-    };
-    serve_operations(c, sizes, words, mem, counts, s, h, reply)
+    match header(s) {
+        HeaderRead::Found(h) => serve_operations(c, sizes, words, mem, counts, s, h, reply),
+        HeaderRead::Fault(p) => Served::bad_header(p),
+    }
 }
 
 // The same in a table of any length that has a number for each block.

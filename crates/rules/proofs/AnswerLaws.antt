@@ -17,7 +17,7 @@ use Rattle.rules.specs.Lists.{first}
 use Rattle.rules.specs.Store.{Store, goodGeometry, goodLengths, sound}
 use Rattle.rules.specs.Operation.{Header, header}
 use Rattle.rules.specs.Run.{Event}
-use Rattle.rules.specs.Calls.{fresh, headerStatus, compound, resultBytes, lastStatus, lastStore, replyHead, replyBytes, Call, refuse, served, refusals, refusal, answer}
+use Rattle.rules.specs.Calls.{fresh, headerStatus, compound, resultBytes, lastStatus, lastStore, lastPlace, replyHead, replyBytes, Call, withPlace, refuse, served, refusals, refusal, answerNoPlace, placeOf, answer}
 use Rattle.rules.specs.Claim.{ranCall, serving, events, Results, Says, Refused}
 use Rattle.rules.proofs.BoolLaws.{and-left, and-right}
 use Rattle.rules.proofs.FirstLaws.{all-clear}
@@ -50,7 +50,7 @@ accepted-or-refused c st = go (refusal c st) refl (header (c .request) 0) refl
 
 -- ---- a refused call
 
-refusal-most : (c : Call) (st : Store) → refusal c st ≤ 5
+pub refusal-most : (c : Call) (st : Store) → refusal c st ≤ 5
 unfolding refusal
 refusal-most c st =
     go (not (goodGeometry (c .config .geometry))) (not (goodLengths (c .config .geometry) st && eqb (length (c .config .verifier)) 8)) (not (sound (c .config .geometry) st))
@@ -68,10 +68,14 @@ refused-most : {c : Call} {st : Store} {k : ℕ} → Refusal c st k → k ≤ 6
 refused-most {c} {st} (early k e) = omega (arith, refusal-most c st)
 refused-most (no-header p e d) = omega arith
 
-refused-is : {c : Call} {st : Store} {k : ℕ} → Refusal c st k → answer c st ≡ refuse k (c .buffer) st
+pub refused-no-place : {c : Call} {st : Store} {k : ℕ} → Refusal c st k → answerNoPlace c st ≡ refuse k (c .buffer) st
+unfolding answerNoPlace
+refused-no-place (early k e) = rw (e, answerNoPlace)
+refused-no-place (no-header p e d) = rw (e, answerNoPlace) (rw d)
+
+pub refused-is : {c : Call} {st : Store} {k : ℕ} → Refusal c st k → answer c st ≡ withPlace (placeOf c st) (refuse k (c .buffer) st)
 unfolding answer
-refused-is (early k e) = rw (e, answer)
-refused-is (no-header p e d) = rw (e, answer) (rw d)
+refused-is {c} {st} r = ap (withPlace (placeOf c st)) (refused-no-place r)
 
 ran-nothing : {c : Call} {st : Store} {k : ℕ} → Refusal c st k → ranCall c st ≡ none
 unfolding ranCall
@@ -122,9 +126,13 @@ module _ {c : Call} {st : Store} {h : Header} {at : ℕ} (a : Accepted c st h at
   abbrev pub reply : List ℕ
   reply = replyBytes status (h .tag) zs
 
-  pub answer-is : answer c st ≡ served (c .buffer) st h at zs
+  pub served-no-place : answerNoPlace c st ≡ served (c .buffer) st h at zs
+  unfolding answerNoPlace
+  served-no-place = rw (a .passes, answerNoPlace) (rw (a .decoded))
+
+  answer-is : answer c st ≡ withPlace (placeOf c st) (served (c .buffer) st h at zs)
   unfolding answer
-  answer-is = rw (a .passes, answer) (rw (a .decoded))
+  answer-is = ap (withPlace (placeOf c st)) served-no-place
 
   pub ran-is : ranCall c st ≡ some (record { status = status; tag = h .tag; events = zs })
   unfolding ranCall
@@ -157,6 +165,10 @@ module _ {c : Call} {st : Store} {h : Header} {at : ℕ} (a : Accepted c st h at
   pub store-is : answer c st .store ≡ lastStore st zs
   unfolding served
   store-is = ap (λ o. o .store) answer-is
+
+  pub read-is : answer c st .read ≡ lastPlace at zs
+  unfolding served
+  read-is = ap (λ o. o .read) answer-is
 
   pub number-is : answer c st .number ≡ 0
   unfolding served

@@ -14,7 +14,7 @@ use Rattle.rules.specs.Lists.{first}
 use Rattle.rules.specs.Store.{Geometry, Store, sizeOf, wordOf, need, fitsPool, byteAt, content}
 use Rattle.rules.specs.Edit.{Edit}
 use Rattle.rules.specs.Read.{atEnd}
-use Rattle.rules.specs.Operation.{NOSPC, Op, READ, READ-PLUS, WRITE, ALLOCATE, opNumber, Item, op, bad, readResult, readPlusReply}
+use Rattle.rules.specs.Operation.{NOSPC, BADXDR, Op, READ, READ-PLUS, WRITE, ALLOCATE, opNumber, Item, op, bad, readResult, readPlusReply}
 use Rattle.rules.specs.Run.{State, noFile, fileOf, zeroId, errors, Config, config, does, editOf, effect, body, Event, failed, countedAfter, perform, reached}
 use Rattle.rules.specs.Calls.{itemNumber, resultBytes, lastStore}
 use Rattle.rules.specs.Claim.{InOrder, OK, Current, setsCurrent, lastSet, editDone, arrayAfter, Leaves, SlotOf, Edits, GivesBack, ReadsBack, NospcExactly}
@@ -24,7 +24,7 @@ use Rattle.rules.proofs.ArrayLaws.{length-content}
 use Rattle.rules.proofs.PieceLaws.{pieces-right}
 use Rattle.rules.proofs.ErrorLaws.{allocate-clear}
 use Rattle.rules.proofs.BodyLaws.{any-file}
-use Rattle.rules.proofs.OperationLaws.{Ready, op-facts, errors-most, not-nospc, effect-ready, effect-same, effect-r, effect-content, effect-current, setsFile, body-most, allocate-done, write-passes, write-has-room, write-done, read-passes, read-room, read-body, Performed, refused, nospc, done, performed, performed-item, performed-before}
+use Rattle.rules.proofs.OperationLaws.{Ready, op-facts, own-errors, effect-ready, effect-same, effect-r, effect-content, effect-current, setsFile, body-most, allocate-done, write-passes, write-has-room, write-done, read-passes, read-room, read-body, Performed, refused, nospc, done, performed, performed-item, performed-before}
 use Rattle.rules.proofs.ItemLaws.{BadKnown, AllKnown}
 
 -- ---- an operation reached in a sound state
@@ -114,7 +114,7 @@ module _ (g : Geometry) (bd : Good g) where
       low = omega (arith, op-facts g wide x r o .number)
 
       go : {z : Event} → Performed (config g v) x o next z → ResultKnown z
-      go (refused e h) = record { number = low; status = omega (arith, errors-most g wide x r o); size = bare-size _ _ }
+      go (refused e h) = record { number = low; status = omega (arith, own-errors g wide x r o .most); size = bare-size _ _ }
       go (nospc h l) = record { number = low; status = omega arith; size = bare-size _ _ }
       go (done h l) = record { number = low; status = omega arith; size = simp (length-append, length-u32) (omega (arith, body-most g wide x r v hv o h)) }
   step-known (undecoded x k e r b) = record { number = b .number; status = b .status-most; size = bare-size _ _ }
@@ -131,7 +131,7 @@ module _ (g : Geometry) (bd : Good g) where
 
   exactly : {v : List ℕ} {x : State} {o : Op} {next : ℕ} {z : Event} → Ready g x → Performed (config g v) x o next z
       → (z .status ≡ NOSPC) ↔ ((first (errors g x o) ≡ 0) × (fitsPool (g .N) (countedAfter g x o) ≡ false))
-  exactly {x = x} {o = o} r (refused e h) = (λ s. absurd (not-nospc g wide x r o (h ∙ s)), λ q. absurd (omega (arith, h, q .0)))
+  exactly {x = x} {o = o} r (refused e h) = (λ s. absurd (own-errors g wide x r o .not-nospc (h ∙ s)), λ q. absurd (omega (arith, h, q .0)))
   exactly {x = x} {o = o} r (nospc h l) = (λ s. (h, lt-leb (need (countedAfter g x o)) (g .N) l), λ q. refl)
   exactly {x = x} {o = o} r (done h l) = (λ (s : _≡_ {A = ℕ} 0 NOSPC). absurd (omega arith), λ q. absurd (omega (arith, l, leb-false (need (countedAfter g x o)) (g .N) (q .1))))
 
@@ -144,6 +144,13 @@ module _ (g : Geometry) (bd : Good g) where
     decoded = λ o next q. absurd (op≢bad (sym q));
     undecoded = λ k′ e′ q s. b .not-nospc s;
   }
+
+  -- ---- an operation that was read is not answered BADXDR
+
+  pub performed-decodes : {v : List ℕ} {x : State} {o : Op} {next : ℕ} {z : Event} → Ready g x → Performed (config g v) x o next z → z .status ≢ BADXDR
+  performed-decodes {x = x} {o = o} r (refused e h) s = own-errors g wide x r o .not-badxdr (h ∙ s)
+  performed-decodes r (nospc h l) s = omega (arith, s)
+  performed-decodes r (done h l) s = omega (arith, s)
 
   -- ---- a well-formed operation
 

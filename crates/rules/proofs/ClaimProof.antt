@@ -195,6 +195,7 @@ gives-is want o k = λ i. record {
   number = k .number i;
   read = k .read i;
   written = k .written i;
+  place = k .place i;
   reply = k .reply i;
   store = record { sizes = k .sizes i; words = k .words i; mem = k .mem i };
 }
@@ -203,10 +204,10 @@ no-events : {c : Call} {st : Store} {k : ℕ} → Refusal c st k → events serv
 unfolding events
 no-events r = rw (refused-call r .nothing-run, events)
 
-some-ran : (a b : Ran) → _≡_ {A = Option Ran} (some a) (some b) → a ≡ b
+pub some-ran : (a b : Ran) → _≡_ {A = Option Ran} (some a) (some b) → a ≡ b
 some-ran a b e = cc
 
-none-ran : (a : Ran) → _≡_ {A = Option Ran} none (some a) → ⊥
+pub none-ran : (a : Ran) → _≡_ {A = Option Ran} none (some a) → ⊥
 none-ran a e = let z : _≡_ {A = ℕ} 0 1 = cc in omega arith
 
 tables-sound : (g : Geometry) → Good g → (st : Store) → goodLengths g st && sound g st ≡ true → Sound g st

@@ -11,33 +11,44 @@ use lib.Dec.{leb, ltb, eqb}
 use Rattle.xdr.specs.Decode.{value}
 use Rattle.rules.specs.Lists.{first}
 use Rattle.rules.specs.Store.{Geometry, Store, sizeOf}
-use Rattle.rules.specs.Operation.{NOSPC, PUTFH, WRITE, ALLOCATE, DEALLOCATE, COPY, CLONE}
+use Rattle.rules.specs.Operation.{NOSPC, BADXDR, PUTFH, WRITE, ALLOCATE, DEALLOCATE, COPY, CLONE}
 use Rattle.rules.specs.Run.{State, noFile, fileOf, sourceCount, pastSource, overlap, uneven, errors}
 use Rattle.rules.proofs.BoolLaws.{and-left, and-right, and-cases, or-left, or-right, not-is}
 use Rattle.rules.proofs.FirstLaws.{all-clear}
 
--- ---- the numbers: statuses of at most 10,090, none of them NOSPC
+-- ---- the numbers: statuses of at most 10,090, none of them NOSPC, and none BADXDR, which comes before, where the operation is read
+
+abbrev ownError : ℕ → Bool
+ownError e = leb e 10090 && (not (eqb e NOSPC) && not (eqb e BADXDR))
 
 abbrev pub known : List (Bool × ℕ) → Bool
 known [] = true
-known (t ∷ ts) = (leb (t .1) 10090 && not (eqb (t .1) NOSPC)) && known ts
+known (t ∷ ts) = ownError (t .1) && known ts
 
-pub first-known : (ts : List (Bool × ℕ)) → known ts ≡ true → (first ts ≤ 10090) × (first ts ≢ NOSPC)
-first-known [] h = (omega arith, λ e. omega (arith, e))
-first-known (t ∷ ts) h = go (t .0) (first-known ts (and-right here (known ts) h))
+pub record OwnError (e : ℕ) : Type 0 where
+  pub most : e ≤ 10090
+  pub not-nospc : e ≢ NOSPC
+  pub not-badxdr : e ≢ BADXDR
+
+own-error : (e : ℕ) → ownError e ≡ true → OwnError e
+own-error e h =
+    let others = and-right (leb e 10090) (not (eqb e NOSPC) && not (eqb e BADXDR)) h in
+    record {
+      most = leb-true e 10090 (and-left (leb e 10090) (not (eqb e NOSPC) && not (eqb e BADXDR)) h);
+      not-nospc = eqb-false e NOSPC (not-true (eqb e NOSPC) (and-left (not (eqb e NOSPC)) (not (eqb e BADXDR)) others));
+      not-badxdr = eqb-false e BADXDR (not-true (eqb e BADXDR) (and-right (not (eqb e NOSPC)) (not (eqb e BADXDR)) others));
+    }
+
+first-passes : (ts : List (Bool × ℕ)) → known ts ≡ true → ownError (first ts) ≡ true
+first-passes [] h = refl
+first-passes (t ∷ ts) h = go (t .0) (first-passes ts (and-right (ownError (t .1)) (known ts) h))
   where
-    here : Bool
-    here = leb (t .1) 10090 && not (eqb (t .1) NOSPC)
-
-    this : here ≡ true
-    this = and-left here (known ts) h
-
-    go : (b : Bool) → (first ts ≤ 10090) × (first ts ≢ NOSPC) → (cond b (t .1) (first ts) ≤ 10090) × (cond b (t .1) (first ts) ≢ NOSPC)
-    go true ih = (
-      leb-true (t .1) 10090 (and-left (leb (t .1) 10090) (not (eqb (t .1) NOSPC)) this),
-      eqb-false (t .1) NOSPC (not-true (eqb (t .1) NOSPC) (and-right (leb (t .1) 10090) (not (eqb (t .1) NOSPC)) this)),
-    )
+    go : (b : Bool) → ownError (first ts) ≡ true → ownError (cond b (t .1) (first ts)) ≡ true
+    go true ih = and-left (ownError (t .1)) (known ts) h
     go false ih = ih
+
+pub first-known : (ts : List (Bool × ℕ)) → known ts ≡ true → OwnError (first ts)
+first-known ts h = own-error (first ts) (first-passes ts h)
 
 -- ---- no error
 

@@ -24,6 +24,7 @@ pub mod ItemLaws
 pub mod NeedLaws
 pub mod OperationLaws
 pub mod PieceLaws
+pub mod PlaceProof
 pub mod PlanLaws
 pub mod Points
 pub mod ReadLaws

@@ -27,7 +27,7 @@ use Rattle.rules.proofs.EditForms.{write-is}
 use Rattle.rules.proofs.WriteLaws.{inside, write-edited, write-bytes, write-room}
 use Rattle.rules.proofs.AllocateLaws.{allocate-reserved}
 use Rattle.rules.proofs.EditLaws.{Lawful, writes, copies, clones, allocates, deallocates, edit-change, Back, edit-r, edit-content}
-use Rattle.rules.proofs.ErrorLaws.{known, first-known, put-clear, write-clear, allocate-clear, deallocate-clear, copy-clear, clone-clear, meant}
+use Rattle.rules.proofs.ErrorLaws.{known, OwnError, first-known, put-clear, write-clear, allocate-clear, deallocate-clear, copy-clear, clone-clear, meant}
 use Rattle.rules.proofs.BodyLaws.{getattr-most, read-most, read-plus-most, seek-most, write-most, copy-most, any-file}
 
 -- ---- a sound state: handles name files
@@ -149,12 +149,8 @@ module _ (g : Geometry) (wide : 512 ≤ g .B) (x : State) (r : Ready g x) where
         })) no-bytes;
   }
 
-  pub errors-most : (o : Op) → first (errors g x o) ≤ 10090
-  errors-most o = first-known (errors g x o) (op-facts o .statuses) .0
-
-  -- no earlier error is NOSPC
-  pub not-nospc : (o : Op) → first (errors g x o) ≢ NOSPC
-  not-nospc o = first-known (errors g x o) (op-facts o .statuses) .1
+  pub own-errors : (o : Op) → OwnError (first (errors g x o))
+  own-errors o = first-known (errors g x o) (op-facts o .statuses)
 
   -- what follows for any operation without error that has room
   abbrev after : Does → State

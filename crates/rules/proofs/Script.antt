@@ -10,8 +10,9 @@ use Rattle.rules.specs.Edit.{givesBack, kindOf, owned, become, pass, pla
 use Rattle.rules.specs.Read.{join, pieces, seekFrom}
 use Rattle.rules.specs.Attributes.{spaceUsed, freedBlocks, spaceFreed}
 use Rattle.rules.specs.Operation.{Op, PUTFH, SAVEFH, WRITE, ALLOCATE, CLONE, itemAt, items, header, requestBytes, getattrReply, readReply, readPlusReply, seekReply}
+use Rattle.rules.specs.Fault.{faultAt}
 use Rattle.rules.specs.Run.{zeroId, errors, does, editOf, effect, body, perform, reached}
-use Rattle.rules.specs.Calls.{compound, replyBytes, Call, Outcome, served, refusal, answer, makeRefusal, madeStore, storeRefusal, usedCount, owedCount, slotRefusal, slotView, slotIsHole}
+use Rattle.rules.specs.Calls.{compound, replyBytes, Call, Outcome, served, refusal, answerNoPlace, lastFault, placeOf, answer, makeRefusal, madeStore, storeRefusal, usedCount, owedCount, slotRefusal, slotView, slotIsHole}
 use Rattle.rules.specs.Claim.{ranCall, serving, machine, events, history, editDone, extend, arrayWrite, arrayZero, arrayAct, arrayEdit, arrayAfter}
 use Rattle.rules.specs.Emptying.{owedForFile}
 
@@ -84,5 +85,5 @@ machineTold r = map told (machine serving (empty (r .pool)) (map (call (r .pool)
 -- ---- computing: `unfolding rules` opens every definition of the rules
 
 unfoldable pub rules : Unit {0}
-unfolding partOf splice be u32 u64 bool opaque array fixedAt fixed number upTo padded opaqueAt opaqueUpTo arrayAt arrayUpTo goodBlockSize goodGeometry goodLengths emptyStore used owed lowestFree byteAt soundFile sound givesBack kindOf owned become pass plan storeSlot fillSlot editBytes edited join pieces seekFrom spaceUsed freedBlocks spaceFreed itemAt items header requestBytes getattrReply readReply readPlusReply seekReply errors does editOf effect body perform reached compound replyBytes served refusal answer makeRefusal madeStore storeRefusal usedCount owedCount slotRefusal slotView slotIsHole ranCall machine events history editDone extend arrayWrite arrayZero arrayAct arrayEdit arrayAfter owedForFile
+unfolding partOf splice be u32 u64 bool opaque array fixedAt fixed number upTo padded opaqueAt opaqueUpTo arrayAt arrayUpTo goodBlockSize goodGeometry goodLengths emptyStore used owed lowestFree byteAt soundFile sound givesBack kindOf owned become pass plan storeSlot fillSlot editBytes edited join pieces seekFrom spaceUsed freedBlocks spaceFreed itemAt items header requestBytes getattrReply readReply readPlusReply seekReply errors does editOf effect body perform reached compound replyBytes served refusal answerNoPlace faultAt lastFault placeOf answer makeRefusal madeStore storeRefusal usedCount owedCount slotRefusal slotView slotIsHole ranCall machine events history editDone extend arrayWrite arrayZero arrayAct arrayEdit arrayAfter owedForFile
 rules = tt

@@ -2,18 +2,22 @@
 -- Each fact says what any outcome that meets the contract has at one call.
 use mathlib.Core.Path.{_≡_, refl, ap, _∙_}
 use Prim.Native.Nat.{ℕ}
-use mathlib.Core.List.{[], _∷_, _++_}
+use mathlib.Core.List.{List, [], _∷_, _++_}
 use lib.ListN.{take, replicate}
 use Rattle.xdr.specs.Encode.{u32}
 use Rattle.rules.specs.Store.{Store}
-use Rattle.rules.specs.Operation.{READ, WRITE, DEALLOCATE, CLONE, SAVEFH, headerLayout}
+use Rattle.rules.specs.Operation.{READ, WRITE, DEALLOCATE, CLONE, SAVEFH, opBytes, headerLayout}
 use Rattle.rules.specs.Run.{zeroId, config}
-use Rattle.rules.specs.Calls.{CountPromise, Outcome, answer, Contract}
+use Rattle.rules.specs.Calls.{CountPromise, Call, Outcome, answer, Contract}
 use Rattle.rules.proofs.Script.{geometry, empty, call, on, allocate, write, replied, result, put, wrote, rules}
 
 -- after P1: file 0 has reserved both blocks of the pool
 abbrev reserved : Store
 reserved = answer (call 2 (allocate 1024)) (empty 2) .store
+
+-- a call with these bytes as its request
+abbrev asked : List ℕ → Call
+asked s = record { config = config (geometry 2) (replicate 8 0); request = s; buffer = replicate 32768 0 }
 
 -- one that refuses everything: this call is served
 pub refuses-everything : (o : Outcome Store) → Contract (call 2 (allocate 1024)) (empty 2) o → o .number ≡ 0
@@ -48,8 +52,7 @@ unfolding rules
 made-up-counts number usedIs owedIs h = (h .number-is ∙ refl, h .used-is ∙ refl, h .owed-is ∙ refl)
 
 -- one that counts bytes of an operation that can't be read: of this GETFH, whose number is cut off, none is counted
-pub counts-unread : (o : Outcome Store) → Contract (record { config = config (geometry 2) (replicate 8 0); request = headerLayout .write ([], (2, 1)) ++ (0 ∷ 0 ∷ []); buffer = replicate 32768 0 }) (empty 2) o
-    → o .read ≡ 12
+pub counts-unread : (o : Outcome Store) → Contract (asked (headerLayout .write ([], (2, 1)) ++ (0 ∷ 0 ∷ []))) (empty 2) o → o .read ≡ 12
 unfolding rules
 counts-unread o h = h .read ∙ refl
 
@@ -60,3 +63,18 @@ pub edge-refused : (o : Outcome Store)
     → take 28 (o .reply) ≡ replied 0 (put ∷ result 62 0 [] ∷ [])
 unfolding rules
 edge-refused o h = ap (take 28) (h .reply) ∙ refl
+
+-- one that tells the place of the length where the pad is wrong: this handle's second pad byte is no zero, and the third is missing
+pub pad-at-length : (o : Outcome Store) → Contract (asked (headerLayout .write ([], (2, 1)) ++ u32 22 ++ u32 1 ++ (97 ∷ 0 ∷ 1 ∷ []))) (empty 2) o → o .place ≡ 22
+unfolding rules
+pad-at-length o h = h .place ∙ refl
+
+-- one that tells a place where the status is not BADXDR: this PUTFH of no file is answered STALE, and what stands behind it is cut off
+pub place-kept : (o : Outcome Store) → Contract (asked (headerLayout .write ([], (2, 2)) ++ opBytes (on 9) ++ (0 ∷ []))) (empty 2) o → o .place ≡ 4294967295
+unfolding rules
+place-kept o h = h .place ∙ refl
+
+-- one that tells the first missing byte of a tag that is too long: its length is read first
+pub long-tag : (o : Outcome Store) → Contract (asked (u32 1025)) (empty 2) o → (o .number ≡ 6) × (o .place ≡ 0)
+unfolding rules
+long-tag o h = (h .number ∙ refl, h .place ∙ refl)

@@ -11,7 +11,8 @@ use Rattle.xdr.specs.Decode.{got, fault}
 use Rattle.xdr.specs.Layout.{Layout, uint, bytes, opaqueData, _then_}
 use Rattle.rules.specs.Lists.{first, allTo}
 use Rattle.rules.specs.Store.{Geometry, goodGeometry, Store, goodLengths, emptyStore, isHole, wordOf, used, owed, sound}
-use Rattle.rules.specs.Operation.{MINOR-VERS-MISMATCH, TOO-MANY-OPS, Item, op, bad, opNumber, items, Header, header}
+use Rattle.rules.specs.Operation.{MINOR-VERS-MISMATCH, TOO-MANY-OPS, BADXDR, Item, op, bad, opNumber, items, Header, header}
+use Rattle.rules.specs.Fault.{NOWHERE, faultAt}
 use Rattle.rules.specs.Run.{State, Config, Event, reached}
 
 -- ---- the operations reached
@@ -76,21 +77,26 @@ pub record Call : Type 0 where
   pub request : List ℕ
   pub buffer : List ℕ
 
--- what comes of a call with the lent tables L: number, bytes read, bytes written, the reply buffer, and the tables afterwards
+-- what comes of a call with the lent tables L: number, bytes read, bytes written, the place of a fault, the reply buffer, and the tables
+-- afterwards
 pub record Outcome (L : Type 0) : Type 0 where
   pub number : ℕ
   pub read : ℕ
   pub written : ℕ
+  pub place : ℕ
   pub reply : List ℕ
   pub store : L
 
+abbrev pub withPlace : {L : Type 0} → ℕ → Outcome L → Outcome L
+withPlace p o = record { number = o .number; read = o .read; written = o .written; place = p; reply = o .reply; store = o .store }
+
 abbrev pub refuse : {L : Type 0} → ℕ → List ℕ → L → Outcome L
-refuse k buf st = record { number = k; read = 0; written = 0; reply = buf; store = st }
+refuse k buf st = record { number = k; read = 0; written = 0; place = NOWHERE; reply = buf; store = st }
 
 unfoldable pub served : List ℕ → Store → Header → ℕ → List Event → Outcome Store
 served buf st h at zs =
     let r = replyBytes (lastStatus (headerStatus h) zs) (h .tag) zs in
-    record { number = 0; read = lastPlace at zs; written = length r; reply = r ++ drop (length r) buf; store = lastStore st zs }
+    record { number = 0; read = lastPlace at zs; written = length r; place = NOWHERE; reply = r ++ drop (length r) buf; store = lastStore st zs }
 
 -- the refusals before the header is read, in order
 abbrev pub refusals : Call → Store → List (Bool × ℕ)
@@ -104,9 +110,9 @@ refusals c st =
 unfoldable pub refusal : Call → Store → ℕ
 refusal c st = first (refusals c st)
 
--- the rules' answer to a call
-unfoldable pub answer : Call → Store → Outcome Store
-answer c st = elim (refusal c st) [
+-- the rules' answer to a call but for the place of a fault
+unfoldable pub answerNoPlace : Call → Store → Outcome Store
+answerNoPlace c st = elim (refusal c st) [
   | zero ↦ elim (header (c .request) 0) [
     | got h at ↦ served (c .buffer) st h at (compound (c .config) st (c .request) h at)
     | fault p ↦ refuse 6 (c .buffer) st
@@ -114,17 +120,37 @@ answer c st = elim (refusal c st) [
   | suc k ↦ refuse (suc k) (c .buffer) st
 ]
 
--- an outcome that is the rules': number, counts, reply buffer and every byte of the tables
+-- where a served compound of request s went wrong: in the last operation reached, if its status is BADXDR. None of its bytes is counted, so it
+-- stands where the bytes read end.
+unfoldable pub lastFault : List ℕ → Header → ℕ → List Event → ℕ
+lastFault s h at zs = cond (eqb (lastStatus (headerStatus h) zs) BADXDR) (faultAt s (lastPlace at zs)) NOWHERE
+
+-- where the request of a call went wrong (request K5): refusal 6 has the place of the header's fault
+unfoldable pub placeOf : Call → Store → ℕ
+placeOf c st = elim (refusal c st) [
+  | zero ↦ elim (header (c .request) 0) [
+    | got h at ↦ lastFault (c .request) h at (compound (c .config) st (c .request) h at)
+    | fault p ↦ p
+  ]
+  | suc k ↦ NOWHERE
+]
+
+-- the rules' answer to a call
+unfoldable pub answer : Call → Store → Outcome Store
+answer c st = withPlace (placeOf c st) (answerNoPlace c st)
+
+-- an outcome that is the rules': number, counts, place, reply buffer and every byte of the tables
 pub record Gives (want o : Outcome Store) : Type 0 where
   pub number : o .number ≡ want .number
   pub read : o .read ≡ want .read
   pub written : o .written ≡ want .written
+  pub place : o .place ≡ want .place
   pub reply : o .reply ≡ want .reply
   pub sizes : o .store .sizes ≡ want .store .sizes
   pub words : o .store .words ≡ want .store .words
   pub mem : o .store .mem ≡ want .store .mem
 
--- What the code promises of the call that serves a compound: its `ensures` is this, of the result's three numbers, and of the reply buffer and
+-- What the code promises of the call that serves a compound: its `ensures` is this, of the result's four numbers, and of the reply buffer and
 -- the tables at exit.
 abbrev pub Contract : Call → Store → Outcome Store → Type 0
 Contract c st o = Gives (answer c st) o

@@ -4,9 +4,11 @@ pub mod Edit
 pub mod Read
 pub mod Attributes
 pub mod Operation
+pub mod Fault
 pub mod Run
 pub mod Calls
 pub mod Line
 pub mod Claim
+pub mod Place
 pub mod Seek
 pub mod Emptying

@@ -13,6 +13,9 @@ use Rattle.server.specs.Exports.{CountsPromise, ShownPromise, ServePromi
 two : (a b x y : ℕ) → a ≡ x → b ≡ y → a ∷ b ∷ [] ≡ x ∷ y ∷ []
 two a b x y e f = rw (e, f)
 
+three : (a b c x y z : ℕ) → a ≡ x → b ≡ y → c ≡ z → a ∷ b ∷ c ∷ [] ≡ x ∷ y ∷ z ∷ []
+three a b c x y z e f g = rw (e, f, g)
+
 pub made : (g h : Geometry) (st after : Store) (n : ℕ) → g ≡ h → MakePromise g st n after → MakePromise h st n after
 made g h st after n e p = subst (λ (k : Geometry). MakePromise k st n after) e p
 
@@ -34,12 +37,12 @@ shown g h st page f k n hole which start view e p w s v =
 
 pub answered : (g h : Geometry) (v s buf : List ℕ) (st : Store) (o : Outcome Store) → g ≡ h
     → Contract (record { config = config g v; request = s; buffer = buf }) st o
-    → ServePromise (record { config = config h v; request = s; buffer = buf }) st (o .number) (o .read ∷ o .written ∷ []) (o .reply) (o .store)
+    → ServePromise (record { config = config h v; request = s; buffer = buf }) st (o .number) (o .read ∷ o .written ∷ o .place ∷ []) (o .reply) (o .store)
 answered g h v s buf st o e p =
     let q = subst (λ (k : Geometry). Contract (record { config = config k v; request = s; buffer = buf }) st o) e p in
     record {
       number-is = q .number;
-      counts-are = two _ _ _ _ (q .read) (q .written);
+      told-is = three _ _ _ _ _ _ (q .read) (q .written) (q .place);
       reply-is = q .reply;
       sizes-are = q .sizes;
       words-are = q .words;
@@ -47,12 +50,13 @@ answered g h v s buf st o e p =
     }
 
 -- a call of the exported function is a step of the claim's list
-pub step-of : (c : Call) (st after : Store) (n : ℕ) (counts reply : List ℕ) → ServePromise c st n counts reply after
-    → Contract c st (record { number = n; read = getD counts 0 0; written = getD counts 1 0; reply = reply; store = after })
-step-of c st after n counts reply p = record {
+pub step-of : (c : Call) (st after : Store) (n : ℕ) (told reply : List ℕ) → ServePromise c st n told reply after
+    → Contract c st (record { number = n; read = getD told 0 0; written = getD told 1 0; place = getD told 2 0; reply = reply; store = after })
+step-of c st after n told reply p = record {
   number = p .number-is;
-  read = ap (λ (l : List ℕ). getD l 0 0) (p .counts-are);
-  written = ap (λ (l : List ℕ). getD l 1 0) (p .counts-are);
+  read = ap (λ (l : List ℕ). getD l 0 0) (p .told-is);
+  written = ap (λ (l : List ℕ). getD l 1 0) (p .told-is);
+  place = ap (λ (l : List ℕ). getD l 2 0) (p .told-is);
   reply = p .reply-is;
   sizes = p .sizes-are;
   words = p .words-are;

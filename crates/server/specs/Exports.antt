@@ -17,10 +17,11 @@ pub record ShownPromise (g : Geometry) (st : Store) (page : List ℕ) (f k numbe
   pub number-is : number ≡ slotRefusal g st page f k
   pub shown-is : shown ≡ bit (slotIsHole g st page f k) ∷ slotStart g st page f k ∷ length (slotView g st page f k) ∷ []
 
--- the rules' answer to a call (document 01, "The compound"): the number, the bytes read and written, the reply buffer and every table
-pub record ServePromise (c : Call) (st : Store) (number : ℕ) (counts reply : List ℕ) (after : Store) : Type 0 where
+-- the rules' answer to a call (document 01, "The compound", with request K5): the number, the bytes read and written and the place of a fault,
+-- the reply buffer and every table
+pub record ServePromise (c : Call) (st : Store) (number : ℕ) (told reply : List ℕ) (after : Store) : Type 0 where
   pub number-is : number ≡ answer c st .number
-  pub counts-are : counts ≡ answer c st .read ∷ answer c st .written ∷ []
+  pub told-is : told ≡ answer c st .read ∷ answer c st .written ∷ answer c st .place ∷ []
   pub reply-is : reply ≡ answer c st .reply
   pub sizes-are : after .sizes ≡ answer c st .store .sizes
   pub words-are : after .words ≡ answer c st .store .words

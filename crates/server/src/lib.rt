@@ -124,7 +124,8 @@ pub extern "C" fn store_slot_view<'a>(
     kind.number
 }
 
-// Serves a compound: 0 with the bytes read and written, or refusal 1 to 6 and zero counts.
+// Serves a compound: 0, or refusal 1 to 6. `told` gets the bytes read and written, zero on a refusal, and the place where the
+// request went wrong.
 #[no_mangle]
 pub extern "C" fn compound_serve(
     files: u64,
@@ -137,16 +138,16 @@ pub extern "C" fn compound_serve(
     verifier: &[u8],
     request: &[u8],
     reply: &mut [u8],
-    counts: &mut [u64; 2],
+    told: &mut [u64; 3],
 ) -> u32
     ensures { λ r. ⌜ ServePromise
         (call (config (record { F = files; S = slots; N = blocks; B = «block_size» }) (now (verifier .entry))) request reply)
         (before sizes words mem)
-        r (now (counts .exit)) (now (reply .exit))
+        r (now (told .exit)) (now (reply .exit))
         (after sizes words mem) ⌝ }
 {
     let g = geometry(files, slots, blocks, block_size);
     let s = compound::serve(g, sizes, words, mem, verifier, request, reply);
-    *counts = [s.read as u64, s.written as u64];
+    *told = [s.read as u64, s.written as u64, s.place as u64];
     s.number
 }

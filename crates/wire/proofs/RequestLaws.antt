@@ -17,10 +17,13 @@ use Rattle.xdr.specs.Decode.{Parsed, got, fault, stop, andThen, Reader, number,
 use Rattle.xdr.specs.Answers.{ofWord, ofLong, ofBytes}
 use Rattle.xdr.specs.Layout.{Layout, boolean, _then_}
 use Rattle.wire.specs.declared.operation.CloneArgs.{CloneArgs}
+use Rattle.wire.specs.declared.operation.Operation.{Operation}
+use Rattle.wire.specs.declared.operation.Item.{Item}
 use Rattle.wire.specs.declared.decode.StartAnswer.{StartAnswer}
 use Rattle.wire.specs.declared.decode.CloneAnswer.{CloneAnswer}
-use Rattle.rules.specs.Operation.{NOTSUPP, BADXDR, OP-ILLEGAL, SEQUENCE-POS, Op, READ, READ-PLUS, SEEK, ALLOCATE, DEALLOCATE, COPY, op, bad, three, argsItem, reading, readArgs, regionArgs, copyOf, copyArgs, numberItem, unserved, itemAt, header, headerLayout, readers, find}
-use Rattle.wire.specs.Decoded.{startStop, ofHandle, ofBitmap, ofStartArgs, ofReadArgs, ofRegionArgs, cloneParts, ofCloneArgs, cloneStop, ReadLike, RegionLike}
+use Rattle.rules.specs.Fault.{faultOf, argsBy, faultAt}
+use Rattle.rules.specs.Operation.{NOTSUPP, OP-ILLEGAL, SEQUENCE-POS, Op, READ, READ-PLUS, SEEK, ALLOCATE, DEALLOCATE, COPY, bad, three, argsItem, reading, readArgs, regionArgs, copyOf, numberItem, unserved, itemAt, header, headerLayout, readers, find}
+use Rattle.wire.specs.Decoded.{startStop, ofHandle, ofBitmap, ofStartArgs, cloneParts, ofCloneArgs, cloneStop, meaning, itemOf, faultIn, ItemRead, ItemReadAt, Always, ReadLike, RegionLike}
 
 -- ---- one field
 
@@ -153,47 +156,58 @@ module _ {A B C : Type 0} (a : Layout A) (b : Layout B) (c : Layout C) (s : List
 
 -- ---- an operation
 
-pub item-fault : {A : Type 0} (l : Layout A) (f : A → Op) (k : ℕ) {s : List ℕ} {at p : ℕ} → l .read s at ≡ fault p → argsItem k (reading l (λ a. some (f a)) s at) ≡ bad k BADXDR
-item-fault l f k e = rw e
+-- number k, whose arguments u reads if we serve it
+by-reader : {s : List ℕ} {at k : ℕ} {u : Option (Reader (Option Op))} {r : Item} → find k readers ≡ u
+    → itemOf s r ≡ elim u [ none ↦ unserved k | some r ↦ argsItem k (r s at) ] → faultIn r ≡ faultOf (argsBy u s at)
+    → ItemRead s (got k at) r
+by-reader {s} {at} {k} is e f = record {
+  item-is = e ∙ ap (λ (u : Option (Reader (Option Op))). elim u [ none ↦ unserved k | some r ↦ argsItem k (r s at) ]) (sym is);
+  fault-is = f ∙ ap (λ (u : Option (Reader (Option Op))). faultOf (argsBy u s at)) (sym is);
+}
 
-pub item-got : {A : Type 0} (l : Layout A) (f : A → Op) (k : ℕ) {s : List ℕ} {at : ℕ} {a : A} {m : ℕ} → l .read s at ≡ got a m
-    → argsItem k (reading l (λ a. some (f a)) s at) ≡ op (f a) m
-item-got l f k e = rw e
+-- operation k, whose arguments have layout l and make an operation, or none that we serve
+module _ {A : Type 0} (k : ℕ) (l : Layout A) (make : A → Option Op) (is : find k readers ≡ some (reading l make)) {s : List ℕ} {at : ℕ} where
+  pub args-fault : {p : ℕ} → l .read s at ≡ fault p → ItemRead s (got k at) (Item.Fault k p)
+  args-fault e = by-reader is (rw e) (rw e)
+
+  pub args-got : {a : A} {o : Operation} {next : Cursor} → l .read s at ≡ got a (next .at) → make a ≡ some (meaning s o) → ItemRead s (got k at) (Item.Op o next)
+  args-got e m = by-reader is (rw (e, m)) (rw e)
+
+  pub args-unserved : {a : A} {m : ℕ} → l .read s at ≡ got a m → make a ≡ none → ItemRead s (got k at) (Item.Bad k NOTSUPP)
+  args-unserved e m = by-reader is (rw (e, m)) (rw e)
 
 -- the operations that have the same arguments, a row each
-pub read-bad : (s : List ℕ) (at : ℕ) {n p : ℕ} → ReadLike n → readArgs .read s at ≡ fault p → bad n BADXDR ≡ numberItem s (got n at)
-read-bad s at (inl e) f = rw e (sym (item-fault readArgs (three READ) 25 f))
-read-bad s at (inr (inl e)) f = rw e (sym (item-fault readArgs (three READ-PLUS) 68 f))
-read-bad s at (inr (inr e)) f = rw e (sym (item-fault readArgs (three SEEK) 69 f))
+module _ {s : List ℕ} {at : ℕ} where
+  pub numbered : {n k : ℕ} {r : Item} → n ≡ k → ItemRead s (got k at) r → ItemRead s (got n at) r
+  numbered e h = rw e h
+
+  pub read-bad : {n p : ℕ} → ReadLike n → readArgs .read s at ≡ fault p → ItemRead s (got n at) (Item.Fault n p)
+  read-bad (inl e) f = rw e (args-fault 25 readArgs (λ a. some (three READ a)) refl f)
+  read-bad (inr (inl e)) f = rw e (args-fault 68 readArgs (λ a. some (three READ-PLUS a)) refl f)
+  read-bad (inr (inr e)) f = rw e (args-fault 69 readArgs (λ a. some (three SEEK a)) refl f)
+
+  pub region-bad : {n p : ℕ} → RegionLike n → regionArgs .read s at ≡ fault p → ItemRead s (got n at) (Item.Fault n p)
+  region-bad (inl e) f = rw e (args-fault 59 regionArgs (λ a. some (three ALLOCATE a)) refl f)
+  region-bad (inr e) f = rw e (args-fault 62 regionArgs (λ a. some (three DEALLOCATE a)) refl f)
 
 pub seek-left : {n : ℕ} → ReadLike n → (n ≡ 25 → ⊥) → (n ≡ 68 → ⊥) → n ≡ 69
 seek-left (inl e) h k = absurd (h e)
 seek-left (inr (inl e)) h k = absurd (k e)
 seek-left (inr (inr e)) h k = e
 
-pub region-bad : (s : List ℕ) (at : ℕ) {n p : ℕ} → RegionLike n → regionArgs .read s at ≡ fault p → bad n BADXDR ≡ numberItem s (got n at)
-region-bad s at (inl e) f = rw e (sym (item-fault regionArgs (three ALLOCATE) 59 f))
-region-bad s at (inr e) f = rw e (sym (item-fault regionArgs (three DEALLOCATE) 62 f))
-
 pub deallocate-left : {n : ℕ} → RegionLike n → (n ≡ 59 → ⊥) → n ≡ 62
 deallocate-left (inl e) h = absurd (h e)
 deallocate-left (inr e) h = e
 
--- the answer to a COPY: arguments x, consecutive, synchronous, and n source servers
-module _ (s : List ℕ) (at : ℕ) (x : List ℕ × (List ℕ × (ℕ × (ℕ × ℕ)))) (c y : Bool) (n m : ℕ) (e : copyArgs .read s at ≡ got (x, (c, (y, n))) m) where
-  pub copy-servers : (n ≡ 0 → ⊥) → argsItem 60 (reading copyArgs copyOf s at) ≡ bad 60 NOTSUPP
-  copy-servers h = rw (e, ne-eqb n 0 h)
+-- a COPY with no source server, and one with some
+module _ (x : List ℕ × (List ℕ × (ℕ × (ℕ × ℕ)))) (c y : Bool) (n : ℕ) where
+  pub copy-servers : (n ≡ 0 → ⊥) → copyOf (x, (c, (y, n))) ≡ none
+  copy-servers h = rw (ne-eqb n 0 h)
 
-  pub copy-got : n ≡ 0 → argsItem 60 (reading copyArgs copyOf s at) ≡ op (COPY (x .0) (x .1 .0) (x .1 .1 .0) (x .1 .1 .1 .0) (x .1 .1 .1 .1) c y) m
-  copy-got h = rw (e, eq-eqb n 0 h)
+  pub copy-made : n ≡ 0 → copyOf (x, (c, (y, n))) ≡ some (COPY (x .0) (x .1 .0) (x .1 .1 .0) (x .1 .1 .1 .0) (x .1 .1 .1 .1) c y)
+  copy-made h = rw (eq-eqb n 0 h)
 
-pub copy-fault : (s : List ℕ) (at : ℕ) {p : ℕ} → copyArgs .read s at ≡ fault p → argsItem 60 (reading copyArgs copyOf s at) ≡ bad 60 BADXDR
-copy-fault s at e = rw e
-
--- ---- an operation by its number
-
-pub numbered : (s : List ℕ) (m : ℕ) {n k : ℕ} → n ≡ k → numberItem s (got k m) ≡ numberItem s (got n m)
-numbered s m e = ap (λ (x : ℕ). numberItem s (got x m)) (sym e)
+-- ---- a number that we don't serve
 
 -- n is the number of none of these readers; `before` is what is known already
 abbrev pub NoneOf : ℕ → Type 0 → List (ℕ × Reader (Option Op)) → Type 0
@@ -206,8 +220,8 @@ none-found n before (r ∷ rs) h =
     let t = none-found n (before × (n ≡ r .0 → ⊥)) rs h in
     (t .0 .0, rw (ne-eqb n (r .0) (t .0 .1)) (t .1))
 
-pub not-served : (s : List ℕ) (n m : ℕ) → NoneOf n (Unit {0}) readers → unserved n ≡ numberItem s (got n m)
-not-served s n m h = sym (ap (λ (o : Option (Reader (Option Op))). elim o [ none ↦ unserved n | some r ↦ argsItem n (r s m) ]) (none-found n (Unit {0}) readers h .1))
+pub not-served : (s : List ℕ) (n m : ℕ) {r : Item} → NoneOf n (Unit {0}) readers → Always r (unserved n) → ItemRead s (got n m) r
+not-served s n m h a = by-reader (none-found n (Unit {0}) readers h .1) (a .0 s) (a .1)
 
 pub sequence : (n : ℕ) → n ≡ 53 → bad n SEQUENCE-POS ≡ unserved n
 sequence n e = rw e
@@ -224,13 +238,13 @@ module _ (n : ℕ) (h : n ≡ 53 → ⊥) where
 
 -- ---- the number itself, and the header
 
-pub cut-off : (s : List ℕ) (at : ℕ) {p : ℕ} → number 4 s at ≡ fault p → itemAt s at ≡ bad 10044 BADXDR
-unfolding itemAt
-cut-off s at e = rw e
+pub cut-off : (s : List ℕ) (at : ℕ) {p : ℕ} → number 4 s at ≡ fault p → ItemReadAt s at (Item.Fault 10044 p)
+unfolding itemAt faultAt
+cut-off s at e = record { item-is = rw e; fault-is = rw e }
 
-pub by-number : (s : List ℕ) (at : ℕ) {n m : ℕ} → number 4 s at ≡ got n m → itemAt s at ≡ numberItem s (got n m)
-unfolding itemAt
-by-number s at e = ap (numberItem s) e
+pub by-number : (s : List ℕ) (at : ℕ) {n m : ℕ} {r : Item} → number 4 s at ≡ got n m → ItemRead s (got n m) r → ItemReadAt s at r
+unfolding itemAt faultAt
+by-number s at e h = record { item-is = h .item-is ∙ ap (numberItem s) (sym e); fault-is = h .fault-is ∙ ap (λ (t : Parsed ℕ). faultOf (andThen t (λ n next. argsBy (find n readers) s next))) (sym e) }
 
 pub header-fault : (s : List ℕ) (at : ℕ) {p : ℕ} → headerLayout .read s at ≡ fault p → header s at ≡ fault p
 unfolding header

@@ -7,7 +7,7 @@ use mathlib.Core.List.{List}
 use lib.Dec.{eqb}
 use Rattle.xdr.specs.declared.read.Bytes.{Bytes}
 use Rattle.xdr.specs.Bytes.{partOf}
-use Rattle.xdr.specs.Decode.{Parsed, got, fault, numbers}
+use Rattle.xdr.specs.Decode.{Parsed, got, fault, andThen, numbers}
 use Rattle.xdr.specs.Layout.{Layout, hyper, _then_}
 use Rattle.wire.specs.declared.operation.CloneArgs.{CloneArgs}
 use Rattle.wire.specs.declared.operation.Operation.{Operation}
@@ -20,7 +20,8 @@ use Rattle.wire.specs.declared.decode.CloneAnswer.{CloneAnswer}
 use Rattle.wire.specs.declared.decode.CopyAnswer.{CopyAnswer}
 use Rattle.wire.specs.declared.operation.Header as read
 use Rattle.wire.specs.declared.decode.HeaderRead.{HeaderRead}
-use Rattle.rules.specs.Operation.{Op, GETATTR, GETFH, RESTOREFH, SAVEFH, PUTFH, READ, READ-PLUS, WRITE, ALLOCATE, DEALLOCATE, SEEK, COPY, CLONE, Item, op, bad, Header, stateid}
+use Rattle.rules.specs.Fault.{NOWHERE, faultOf, argsBy, faultAt}
+use Rattle.rules.specs.Operation.{BADXDR, readers, find, numberItem, itemAt, Op, GETATTR, GETFH, RESTOREFH, SAVEFH, PUTFH, READ, READ-PLUS, WRITE, ALLOCATE, DEALLOCATE, SEEK, COPY, CLONE, Item, op, bad, Header, stateid}
 
 -- ---- arguments, in the order of their layouts
 
@@ -94,10 +95,26 @@ meaning s (Operation.Clone a) = CLONE (partOf s (a .source)) (partOf s (a .targe
 abbrev pub itemOf : List ℕ → declared.Item → Item
 itemOf s (declared.Item.Op o next) = op (meaning s o) (next .at)
 itemOf s (declared.Item.Bad k e) = bad k e
+itemOf s (declared.Item.Fault k p) = bad k BADXDR
 
--- the same in every request
+abbrev pub faultIn : declared.Item → ℕ
+faultIn (declared.Item.Op o next) = NOWHERE
+faultIn (declared.Item.Bad k e) = NOWHERE
+faultIn (declared.Item.Fault k p) = p
+
+-- what was read of an operation whose number is `number` of request s
+pub record ItemRead (s : List ℕ) (number : Parsed ℕ) (r : declared.Item) : Type 0 where
+  pub item-is : itemOf s r ≡ numberItem s number
+  pub fault-is : faultIn r ≡ faultOf (andThen number (λ n next. argsBy (find n readers) s next))
+
+-- of the one at place `at`
+pub record ItemReadAt (s : List ℕ) (at : ℕ) (r : declared.Item) : Type 0 where
+  pub item-is : itemOf s r ≡ itemAt s at
+  pub fault-is : faultIn r ≡ faultAt s at
+
+-- the same in every request, without a fault
 abbrev pub Always : declared.Item → Item → Type 0
-Always r i = (s : List ℕ) → itemOf s r ≡ i
+Always r i = ((s : List ℕ) → itemOf s r ≡ i) × (faultIn r ≡ NOWHERE)
 
 -- the numbers of the operations that have these arguments
 abbrev pub ReadLike : ℕ → Type 0

@@ -1,8 +1,8 @@
 // Readers of a request: the arguments of each layout, an operation, the header. Each asks nothing of the place it is given.
 ghost use mathlib.Core.Path.{_≡_};
 ghost use Rattle.xdr.specs.Decode.{got};
-ghost use Rattle.rules.specs.Operation.{handleArgs, bitmapArgs, readArgs, writeArgs, regionArgs, cloneArgs, copyArgs, unserved, numberItem, itemAt, header};
-ghost use Rattle.wire.specs.Decoded.{startArgs, startStop, ofHandle, ofBitmap, ofStartArgs, ofReadArgs, ofWriteArgs, ofRegionArgs, ofCloneArgs, cloneStop, ofCopyArgs, ofHeader, itemOf, ReadLike, RegionLike, Always};
+ghost use Rattle.rules.specs.Operation.{handleArgs, bitmapArgs, readArgs, writeArgs, regionArgs, cloneArgs, copyArgs, unserved, header};
+ghost use Rattle.wire.specs.Decoded.{startArgs, startStop, ofHandle, ofBitmap, ofStartArgs, ofReadArgs, ofWriteArgs, ofRegionArgs, ofCloneArgs, cloneStop, ofCopyArgs, ofHeader, ItemRead, ItemReadAt, ReadLike, RegionLike, Always};
 use crate::operation::CloneArgs;
 use crate::operation::CopyArgs;
 use crate::operation::Header;
@@ -240,81 +240,83 @@ pub fn copy_args(s: &[u8], c: Cursor) -> CopyAnswer
 
 // The operations with arguments, by their layouts: what stands at `c`, behind the number.
 fn get_attr_item(s: &[u8], c: Cursor) -> Item
-    ensures { λ r. ⌜ itemOf (now (s .entry)) r ≡ numberItem (now (s .entry)) (got 9 (c .at)) ⌝ }
+    ensures { λ r. ⌜ ItemRead (now (s .entry)) (got 9 (c .at)) r ⌝ }
 {
-    let Bytes::Found(d, next) = bitmap_args(s, c) else {
-        return Item::Bad(Operation::GETATTR, Operation::BADXDR);
-    };
-    Item::Op(Operation::GetAttr(d), next)
+    match bitmap_args(s, c) {
+        Bytes::Found(d, next) => Item::Op(Operation::GetAttr(d), next),
+        Bytes::Fault(p) => Item::Fault(Operation::GETATTR, p),
+    }
 }
 
 fn put_fh_item(s: &[u8], c: Cursor) -> Item
-    ensures { λ r. ⌜ itemOf (now (s .entry)) r ≡ numberItem (now (s .entry)) (got 22 (c .at)) ⌝ }
+    ensures { λ r. ⌜ ItemRead (now (s .entry)) (got 22 (c .at)) r ⌝ }
 {
-    let Bytes::Found(h, next) = handle_args(s, c) else {
-        return Item::Bad(Operation::PUTFH, Operation::BADXDR);
-    };
-    Item::Op(Operation::PutFh(h), next)
+    match handle_args(s, c) {
+        Bytes::Found(h, next) => Item::Op(Operation::PutFh(h), next),
+        Bytes::Fault(p) => Item::Fault(Operation::PUTFH, p),
+    }
 }
 
 // READ, READ_PLUS and SEEK.
 fn read_item(s: &[u8], n: u32, c: Cursor) -> Item
     requires { ⌜ ReadLike n ⌝ }
-    ensures { λ r. ⌜ itemOf (now (s .entry)) r ≡ numberItem (now (s .entry)) (got n (c .at)) ⌝ }
+    ensures { λ r. ⌜ ItemRead (now (s .entry)) (got n (c .at)) r ⌝ }
 {
-    let ReadAnswer::Found(a, next) = read_args(s, c) else {
-        return Item::Bad(n, Operation::BADXDR);
-    };
-    match n {
-        Operation::READ => Item::Op(Operation::Read(a), next),
-        Operation::READ_PLUS => Item::Op(Operation::ReadPlus(a), next),
-        _ => Item::Op(Operation::Seek(a), next),
+    match read_args(s, c) {
+        ReadAnswer::Found(a, next) => match n {
+            Operation::READ => Item::Op(Operation::Read(a), next),
+            Operation::READ_PLUS => Item::Op(Operation::ReadPlus(a), next),
+            _ => Item::Op(Operation::Seek(a), next),
+        },
+        ReadAnswer::Fault(p) => Item::Fault(n, p),
     }
 }
 
 // ALLOCATE and DEALLOCATE.
 fn region_item(s: &[u8], n: u32, c: Cursor) -> Item
     requires { ⌜ RegionLike n ⌝ }
-    ensures { λ r. ⌜ itemOf (now (s .entry)) r ≡ numberItem (now (s .entry)) (got n (c .at)) ⌝ }
+    ensures { λ r. ⌜ ItemRead (now (s .entry)) (got n (c .at)) r ⌝ }
 {
-    let RegionAnswer::Found(a, next) = region_args(s, c) else {
-        return Item::Bad(n, Operation::BADXDR);
-    };
-    match n {
-        Operation::ALLOCATE => Item::Op(Operation::Allocate(a), next),
-        _ => Item::Op(Operation::Deallocate(a), next),
+    match region_args(s, c) {
+        RegionAnswer::Found(a, next) => match n {
+            Operation::ALLOCATE => Item::Op(Operation::Allocate(a), next),
+            _ => Item::Op(Operation::Deallocate(a), next),
+        },
+        RegionAnswer::Fault(p) => Item::Fault(n, p),
     }
 }
 
 fn write_item(s: &[u8], c: Cursor) -> Item
-    ensures { λ r. ⌜ itemOf (now (s .entry)) r ≡ numberItem (now (s .entry)) (got 38 (c .at)) ⌝ }
+    ensures { λ r. ⌜ ItemRead (now (s .entry)) (got 38 (c .at)) r ⌝ }
 {
-    let WriteAnswer::Found(a, next) = write_args(s, c) else {
-        return Item::Bad(Operation::WRITE, Operation::BADXDR);
-    };
-    Item::Op(Operation::Write(a), next)
+    match write_args(s, c) {
+        WriteAnswer::Found(a, next) => Item::Op(Operation::Write(a), next),
+        WriteAnswer::Fault(p) => Item::Fault(Operation::WRITE, p),
+    }
 }
 
 // A COPY with source servers is not supported.
 fn copy_item(s: &[u8], c: Cursor) -> Item
-    ensures { λ r. ⌜ itemOf (now (s .entry)) r ≡ numberItem (now (s .entry)) (got 60 (c .at)) ⌝ }
+    ensures { λ r. ⌜ ItemRead (now (s .entry)) (got 60 (c .at)) r ⌝ }
 {
-    let CopyAnswer::Found(a, servers, next) = copy_args(s, c) else {
-        return Item::Bad(Operation::COPY, Operation::BADXDR);
-    };
-    if servers != 0 {
-        return Item::Bad(Operation::COPY, Operation::NOTSUPP);
+    match copy_args(s, c) {
+        CopyAnswer::Found(a, servers, next) => {
+            if servers != 0 {
+                return Item::Bad(Operation::COPY, Operation::NOTSUPP);
+            }
+            Item::Op(Operation::Copy(a), next)
+        }
+        CopyAnswer::Fault(p) => Item::Fault(Operation::COPY, p),
     }
-    Item::Op(Operation::Copy(a), next)
 }
 
 fn clone_item(s: &[u8], c: Cursor) -> Item
-    ensures { λ r. ⌜ itemOf (now (s .entry)) r ≡ numberItem (now (s .entry)) (got 71 (c .at)) ⌝ }
+    ensures { λ r. ⌜ ItemRead (now (s .entry)) (got 71 (c .at)) r ⌝ }
 {
-    let CloneAnswer::Found(a, next) = clone_args(s, c) else {
-        return Item::Bad(Operation::CLONE, Operation::BADXDR);
-    };
-    Item::Op(Operation::Clone(a), next)
+    match clone_args(s, c) {
+        CloneAnswer::Found(a, next) => Item::Op(Operation::Clone(a), next),
+        CloneAnswer::Fault(p) => Item::Fault(Operation::CLONE, p),
+    }
 }
 
 // A number that is not served.
@@ -335,7 +337,7 @@ fn unserved_item(n: u32) -> Item
 
 // Operation `n`, whose arguments stand at `c`.
 fn numbered_item(s: &[u8], n: u32, c: Cursor) -> Item
-    ensures { λ r. ⌜ itemOf (now (s .entry)) r ≡ numberItem (now (s .entry)) (got n (c .at)) ⌝ }
+    ensures { λ r. ⌜ ItemRead (now (s .entry)) (got n (c .at)) r ⌝ }
 {
     match n {
         Operation::GETATTR => get_attr_item(s, c),
@@ -357,12 +359,12 @@ fn numbered_item(s: &[u8], n: u32, c: Cursor) -> Item
 
 // The operation that stands at `c`.
 pub fn item(s: &[u8], c: Cursor) -> Item
-    ensures { λ r. ⌜ itemOf (now (s .entry)) r ≡ itemAt (now (s .entry)) (c .at) ⌝ }
+    ensures { λ r. ⌜ ItemReadAt (now (s .entry)) (c .at) r ⌝ }
 {
-    let Word::Value(n, next) = c.word(s) else {
-        return Item::Bad(Operation::ILLEGAL, Operation::BADXDR);
-    };
-    numbered_item(s, n, next)
+    match c.word(s) {
+        Word::Value(n, next) => numbered_item(s, n, next),
+        Word::Fault(p) => Item::Fault(Operation::ILLEGAL, p),
+    }
 }
 
 // The header of a request, from its first byte on.

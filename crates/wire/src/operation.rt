@@ -1,4 +1,6 @@
 // A decoded request: its header, and an operation. The tag, stateids, handles and data stay where they are, as spans.
+ghost use mathlib.Core.Path.{_≡_};
+ghost use Rattle.wire.specs.Decoded.{faultIn};
 use xdr::Cursor;
 use xdr::Span;
 
@@ -128,9 +130,26 @@ impl Operation {
     pub const SEQUENCE_POS: u32 = 10064;
 }
 
-// What stands at a place of the request: an operation and the place after it, or the number and the status of the result that
-// ends the compound.
+// What stands at a place of the request: an operation and the place after it; or the number and the status of the result that
+// ends the compound; or, where that is BADXDR, its number and the place of the fault.
 pub enum Item {
     Op(Operation, Cursor),
     Bad(u32, u32),
+    Fault(u32, usize),
+}
+
+impl Item {
+    // The place where there is no fault.
+    pub const NOWHERE: usize = 4294967295;
+
+    // The place of the fault.
+    pub fn fault(self) -> usize
+        ensures { λ r. ⌜ r ≡ faultIn self ⌝ }
+    {
+        match self {
+            Item::Op(_, _) => Item::NOWHERE,
+            Item::Bad(_, _) => Item::NOWHERE,
+            Item::Fault(_, p) => p,
+        }
+    }
 }

@@ -3,12 +3,13 @@
 //! that are shown the number, the place and the bytes.
 //!
 //! `generator` makes the calls of a seed, `pair` runs them side by side, `shrink` makes a list with
-//! a difference short, `seed` puts these together, `tally` counts what was met, with `slots` and
+//! a difference short, `seed` puts these together, `damage` makes requests wrong at every byte, `tally` counts what was met, with `slots` and
 //! `attributes`, and `program` runs many seeds.
 //!
 //! `frames` makes the lines of the programs, and `recording` compares programs that replay them.
 
 mod attributes;
+mod damage;
 mod difference;
 mod frames;
 mod generator;
@@ -25,6 +26,7 @@ mod slots;
 mod tally;
 pub mod wire;
 
+pub use damage::try_damaged;
 pub use difference::Difference;
 pub use frames::Frames;
 pub use generator::Generator;
@@ -33,5 +35,5 @@ pub use random::Random;
 pub use seed::{differs, try_seed, Found};
 #[cfg(feature = "proved")]
 pub use server::Proved;
-pub use server::{Answer, Second, Server, Shown};
+pub use server::{Counted, Second, Served, Server, Shown};
 pub use tally::Tally;

@@ -4,14 +4,14 @@ use std::fmt;
 
 use second::Store;
 
-use crate::server::{Answer, Shown};
+use crate::server::{Counted, Served, Shown};
 
 /// What one side shows of a step besides its store and its reply buffer.
 pub(crate) struct Observed {
-    pub served: Option<Answer>,
+    pub served: Option<Served>,
     pub shown: Option<Shown>,
     pub soundness: u32,
-    pub counted: Answer,
+    pub counted: Counted,
     /// Of a call with tables of its own.
     pub on_copy: Option<OnCopy>,
 }
@@ -31,19 +31,21 @@ impl fmt::Display for Observed {
             counted,
             on_copy,
         } = self;
-        if let Some(Answer { number, counts }) = served {
-            let [read, written] = counts;
-            write!(f, "serve {number}, read {read}, written {written}; ")?;
+        if let Some(served) = served {
+            let Served {
+                number,
+                read,
+                written,
+                place,
+            } = served;
+            write!(f, "serve {number}, read {read}, written {written}")?;
+            write!(f, ", place {place}; ")?;
         }
         if let Some(Shown { number, part, .. }) = shown {
             write!(f, "slot_view {number}, part {part:?}; ")?;
         }
         write!(f, "soundness {soundness}; count_blocks {}", counted.number)?;
-        write!(
-            f,
-            ", used {}, owed {}",
-            counted.counts[0], counted.counts[1]
-        )?;
+        write!(f, ", used {}, owed {}", counted.used, counted.owed)?;
         match on_copy {
             Some(on_copy) => write!(f, "; make_empty {}", on_copy.emptied),
             None => Ok(()),

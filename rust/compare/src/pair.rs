@@ -9,7 +9,7 @@ use crate::difference::{
 };
 use crate::list::{Call, Step, View, Words};
 use crate::observed::{Observed, OnCopy};
-use crate::server::{Answer, Server};
+use crate::server::{Served, Server};
 use crate::wire::{self, Outcome};
 
 /// The longest reply buffer that a call is given.
@@ -43,7 +43,7 @@ impl Side<'_> {
         }
     }
 
-    fn serve(&mut self, geometry: &Geometry, call: &Call) -> Answer {
+    fn serve(&mut self, geometry: &Geometry, call: &Call) -> Served {
         let reply = &mut self.reply[..call.reply_length];
         let request = call.request.bytes();
         self.server
@@ -156,18 +156,18 @@ impl<'a> Pair<'a> {
 
     /// The results of a call that was served.
     pub fn outcome(&self, observed: &Observed) -> Option<Outcome> {
-        let answer = observed.served.filter(|answer| answer.number == 0)?;
-        wire::outcome(self.sides[0].reply.get(..answer.counts[1] as usize)?)
+        let served = observed.served.filter(|served| served.number == 0)?;
+        wire::outcome(self.sides[0].reply.get(..served.written as usize)?)
     }
 
     fn unreadable(&self, observed: &Observed) -> Option<String> {
-        let served = observed.served.is_some_and(|answer| answer.number == 0);
+        let served = observed.served.is_some_and(|served| served.number == 0);
         (served && self.outcome(observed).is_none())
             .then(|| "the reply isn't laid out as one".into())
     }
 
     fn show(&self, side: usize, observed: &Observed) -> String {
-        let written = observed.served.map_or(0, |answer| answer.counts[1]);
+        let written = observed.served.map_or(0, |served| served.written);
         let reply = &self.sides[side].reply;
         let reply = &reply[..reply.len().min(written as usize)];
         format!("{observed}\n   reply {}", Words(reply))

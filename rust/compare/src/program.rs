@@ -4,6 +4,7 @@ use std::ops::Range;
 use std::process::ExitCode;
 use std::thread;
 
+use crate::damage::try_damaged;
 use crate::seed::{try_seed, Found};
 use crate::server::Server;
 use crate::tally::Tally;
@@ -50,6 +51,7 @@ pub fn with_stack<T: Send>(work: impl FnOnce() -> T + Send) -> T {
 
 fn compare(servers: [Named; 2], seeds: Range<u64>) -> Result<Tally, Box<Found>> {
     let mut tally = Tally::default();
+    try_damaged(servers.map(|named| named.1 as &dyn Server), &mut tally)?;
     for seed in seeds {
         if seed.is_multiple_of(PROGRESS) {
             eprintln!("seed {seed}");
@@ -74,8 +76,8 @@ fn report(tally: &Tally) -> ExitCode {
         println!("not allowed: {strange}");
     }
     println!(
-        "{} lists, {} calls, {} operations, {} slots shown compared",
-        tally.lists, tally.calls, tally.operations, tally.views
+        "{} lists, {} damaged requests, {} calls, {} operations, {} slots shown compared",
+        tally.lists, tally.damaged, tally.calls, tally.operations, tally.views
     );
     match strange.is_empty() {
         true => ExitCode::SUCCESS,
@@ -84,7 +86,7 @@ fn report(tally: &Tally) -> ExitCode {
 }
 
 fn report_difference(servers: [Named; 2], found: &Found) {
-    println!("seed {}: {}", found.seed, found.difference.what);
+    println!("{}: {}", found.name, found.difference.what);
     print!("{}", found.list);
     for ((name, _), answer) in servers.iter().zip(&found.difference.answers) {
         println!("{name}: {answer}");

@@ -11,11 +11,28 @@ use crate::tally::Tally;
 /// So many calls show that a store that isn't sound is refused.
 const CALLS_IF_UNSOUND: usize = 4;
 
-/// A seed with a difference, and its list made short.
+/// A list with a difference, made short.
 pub struct Found {
-    pub seed: u64,
+    /// What the list is: that of a seed, or of a damaged request.
+    pub name: String,
     pub list: List,
     pub difference: Difference,
+}
+
+impl Found {
+    pub(crate) fn new(
+        name: String,
+        list: List,
+        difference: Difference,
+        servers: [&dyn Server; 2],
+    ) -> Box<Found> {
+        let (list, difference) = shortest(list, difference, servers);
+        Box::new(Found {
+            name,
+            list,
+            difference,
+        })
+    }
 }
 
 /// Runs a list from an empty store on; the first difference.
@@ -35,17 +52,8 @@ pub fn try_seed(seed: u64, servers: [&dyn Server; 2], tally: &mut Tally) -> Resu
         geometry: generator.geometry,
         steps: Vec::new(),
     };
-    match run_seed(&mut generator, &mut list, servers, tally) {
-        Ok(()) => Ok(()),
-        Err(difference) => {
-            let (list, difference) = shortest(list, difference, servers);
-            Err(Box::new(Found {
-                seed,
-                list,
-                difference,
-            }))
-        }
-    }
+    run_seed(&mut generator, &mut list, servers, tally)
+        .map_err(|difference| Found::new(format!("seed {seed}"), list, difference, servers))
 }
 
 /// Every step is in the list before it is run.

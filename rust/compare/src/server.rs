@@ -2,11 +2,22 @@
 
 use second::{Geometry, Kind, Store};
 
-/// A call's number, 0 or a refusal, and its two counts.
+/// A count's number, 0 or a refusal, and used and owed blocks.
 #[derive(Clone, Copy, Debug, PartialEq, Eq)]
-pub struct Answer {
+pub struct Counted {
     pub number: u32,
-    pub counts: [u64; 2],
+    pub used: u64,
+    pub owed: u64,
+}
+
+/// A served compound's number, 0 or a refusal, the bytes read and written, and the place where the
+/// request went wrong.
+#[derive(Clone, Copy, Debug, PartialEq, Eq)]
+pub struct Served {
+    pub number: u32,
+    pub read: u64,
+    pub written: u64,
+    pub place: u64,
 }
 
 /// A slot view's number, 0 or a refusal, and what it shows.
@@ -23,8 +34,7 @@ pub trait Server {
 
     fn soundness(&self, geometry: &Geometry, store: &Store) -> u32;
 
-    /// The number, used and owed blocks.
-    fn count_blocks(&self, geometry: &Geometry, store: &Store) -> Answer;
+    fn count_blocks(&self, geometry: &Geometry, store: &Store) -> Counted;
 
     fn slot_view(
         &self,
@@ -35,7 +45,6 @@ pub trait Server {
         slot: u64,
     ) -> Shown;
 
-    /// The number, bytes read and bytes written.
     fn serve(
         &self,
         geometry: &Geometry,
@@ -43,7 +52,7 @@ pub trait Server {
         verifier: &[u8],
         request: &[u8],
         reply: &mut [u8],
-    ) -> Answer;
+    ) -> Served;
 }
 
 /// The program in plain Rust.
@@ -63,11 +72,12 @@ impl Server for Second {
         second::soundness(geometry, store)
     }
 
-    fn count_blocks(&self, geometry: &Geometry, store: &Store) -> Answer {
+    fn count_blocks(&self, geometry: &Geometry, store: &Store) -> Counted {
         let counted = second::count_blocks(geometry, store);
-        Answer {
+        Counted {
             number: counted.number,
-            counts: [counted.used, counted.owed],
+            used: counted.used,
+            owed: counted.owed,
         }
     }
 
@@ -99,11 +109,13 @@ impl Server for Second {
         verifier: &[u8],
         request: &[u8],
         reply: &mut [u8],
-    ) -> Answer {
+    ) -> Served {
         let served = second::serve(geometry, store, verifier, request, reply);
-        Answer {
+        Served {
             number: served.number,
-            counts: [served.read as u64, served.written as u64],
+            read: served.read as u64,
+            written: served.written as u64,
+            place: served.place as u64,
         }
     }
 }
@@ -136,13 +148,6 @@ mod proved {
         rest.get(..length as usize).unwrap_or_default().to_vec()
     }
 
-    fn answer(answer: server_sys::Answer) -> Answer {
-        Answer {
-            number: answer.number,
-            counts: answer.counts,
-        }
-    }
-
     impl Server for Proved {
         fn make_empty(&self, geometry: &Geometry, store: &mut Store) -> u32 {
             let Store { sizes, words, mem } = store;
@@ -154,9 +159,14 @@ mod proved {
             server_sys::soundness(&four(geometry), sizes, words, mem)
         }
 
-        fn count_blocks(&self, geometry: &Geometry, store: &Store) -> Answer {
+        fn count_blocks(&self, geometry: &Geometry, store: &Store) -> Counted {
             let Store { sizes, words, mem } = store;
-            answer(server_sys::count_blocks(&four(geometry), sizes, words, mem))
+            let counted = server_sys::count_blocks(&four(geometry), sizes, words, mem);
+            Counted {
+                number: counted.number,
+                used: counted.used,
+                owed: counted.owed,
+            }
         }
 
         fn slot_view(
@@ -183,17 +193,16 @@ mod proved {
             verifier: &[u8],
             request: &[u8],
             reply: &mut [u8],
-        ) -> Answer {
+        ) -> Served {
             let Store { sizes, words, mem } = store;
-            answer(server_sys::serve(
-                &four(geometry),
-                sizes,
-                words,
-                mem,
-                verifier,
-                request,
-                reply,
-            ))
+            let four = four(geometry);
+            let served = server_sys::serve(&four, sizes, words, mem, verifier, request, reply);
+            Served {
+                number: served.number,
+                read: served.read,
+                written: served.written,
+                place: served.place,
+            }
         }
     }
 }

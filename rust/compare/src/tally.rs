@@ -32,10 +32,11 @@ const STATUSES: [(u32, &str); 14] = [
 /// The statuses of replies without a result: an empty list, minor version, too many operations.
 const WITHOUT_RESULT: [u32; 3] = [0, 10021, 10070];
 
-/// The calls, each with its numbers; and where a slot that was shown lies, in the memory or in the
-/// page.
-const NUMBERS: [(&str, &[u32]); 6] = [
+/// The calls, each with its numbers; whether a place was told; and where a slot that was shown
+/// lies, in the memory or in the page.
+const NUMBERS: [(&str, &[u32]); 7] = [
     ("serve", &[0, 1, 2, 3, 4, 5, 6]),
+    ("place told", &[0, 1]),
     ("soundness", &[0, 1, 2, 3]),
     ("count_blocks", &[0, 1, 2, 3]),
     ("make_empty", &[0, 1, 2]),
@@ -68,6 +69,7 @@ fn numbers() -> impl Iterator<Item = u32> {
 #[derive(Default)]
 pub struct Tally {
     pub lists: u64,
+    pub damaged: u64,
     pub calls: u64,
     pub operations: u64,
     pub views: u64,
@@ -88,6 +90,8 @@ impl Tally {
         if let Some(served) = observed.served {
             self.calls += 1;
             self.add_answer("serve", served.number);
+            let told = served.place != second::NOWHERE as u64;
+            self.add_answer("place told", told.into());
         }
         if let Some(shown) = &observed.shown {
             self.add_view(shown);

@@ -1,8 +1,11 @@
 //! The comparison itself, tried on servers with one fault each.
 
 use compare::wire::{self, Told};
-use compare::{differs, try_seed, Answer, Found, List, Second, Server, Shown, Step, Tally};
-use second::{Geometry, Store};
+use compare::{
+    differs, try_damaged, try_seed, Counted, Found, List, Second, Served, Server, Shown, Step,
+    Tally,
+};
+use second::{Geometry, Store, NOWHERE};
 
 /// The plain program, with a fault in what it serves.
 struct Serving<F>(F);
@@ -13,7 +16,7 @@ struct Scene<'a> {
     before: &'a Store,
     after: &'a mut Store,
     reply: &'a mut [u8],
-    answer: &'a mut Answer,
+    answer: &'a mut Served,
 }
 
 impl Scene<'_> {
@@ -43,7 +46,7 @@ impl Scene<'_> {
 
     /// Whether the reply ends in GETATTR's last attribute.
     fn ends_in_space_freed(&self) -> bool {
-        let reply = &self.reply[..self.answer.counts[1] as usize];
+        let reply = &self.reply[..self.answer.written as usize];
         let last = wire::outcome(reply).and_then(|mut outcome| outcome.results.pop());
         last.is_some_and(|last| match last.told {
             Told::Attributes(bitmap) => wire::has_bit(&bitmap, 78),
@@ -71,7 +74,7 @@ impl<F: Fn(Scene)> Server for Serving<F> {
         Second.soundness(geometry, store)
     }
 
-    fn count_blocks(&self, geometry: &Geometry, store: &Store) -> Answer {
+    fn count_blocks(&self, geometry: &Geometry, store: &Store) -> Counted {
         Second.count_blocks(geometry, store)
     }
 
@@ -93,7 +96,7 @@ impl<F: Fn(Scene)> Server for Serving<F> {
         verifier: &[u8],
         request: &[u8],
         reply: &mut [u8],
-    ) -> Answer {
+    ) -> Served {
         let before = store.clone();
         let mut answer = Second.serve(geometry, store, verifier, request, reply);
         (self.0)(Scene {
@@ -127,7 +130,7 @@ impl<F: Fn(&mut Store)> Server for Judging<F> {
         Second.soundness(geometry, &self.seen(store))
     }
 
-    fn count_blocks(&self, geometry: &Geometry, store: &Store) -> Answer {
+    fn count_blocks(&self, geometry: &Geometry, store: &Store) -> Counted {
         Second.count_blocks(geometry, &self.seen(store))
     }
 
@@ -149,7 +152,7 @@ impl<F: Fn(&mut Store)> Server for Judging<F> {
         verifier: &[u8],
         request: &[u8],
         reply: &mut [u8],
-    ) -> Answer {
+    ) -> Served {
         Second.serve(geometry, store, verifier, request, reply)
     }
 }
@@ -181,7 +184,7 @@ impl Server for Showing {
         Second.soundness(geometry, store)
     }
 
-    fn count_blocks(&self, geometry: &Geometry, store: &Store) -> Answer {
+    fn count_blocks(&self, geometry: &Geometry, store: &Store) -> Counted {
         Second.count_blocks(geometry, store)
     }
 
@@ -209,7 +212,7 @@ impl Server for Showing {
         verifier: &[u8],
         request: &[u8],
         reply: &mut [u8],
-    ) -> Answer {
+    ) -> Served {
         Second.serve(geometry, store, verifier, request, reply)
     }
 }
@@ -278,7 +281,7 @@ fn the_plain_program_agrees_with_itself_and_meets_everything() {
 fn a_reply_byte_of_a_write_into_a_shared_slot() {
     let found = found(&Serving(|scene: Scene| {
         if scene.is_unshared() {
-            scene.reply[scene.answer.counts[1] as usize - 1] ^= 1;
+            scene.reply[scene.answer.written as usize - 1] ^= 1;
         }
     }));
     assert!(found.difference.what.starts_with("reply at"));
@@ -290,7 +293,7 @@ fn a_reply_byte_of_a_write_into_a_shared_slot() {
 fn a_space_freed_where_a_file_holds_a_block_twice() {
     let found = found(&Serving(|scene: Scene| {
         if scene.ends_in_space_freed() && scene.is_shared_in_a_file() {
-            scene.reply[scene.answer.counts[1] as usize - 1] ^= 1;
+            scene.reply[scene.answer.written as usize - 1] ^= 1;
         }
     }));
     assert!(found.difference.what.starts_with("reply at"));
@@ -327,11 +330,45 @@ fn a_freed_block_that_is_cleared() {
 fn bytes_read_of_an_operation_that_does_not_decode() {
     let found = found(&Serving(|scene: Scene| {
         if scene.reply.starts_with(&10064u32.to_be_bytes()) && scene.answer.number == 0 {
-            scene.answer.counts[0] += 4;
+            scene.answer.read += 4;
         }
     }));
     assert!(found.difference.what.ends_with("of serve"));
     assert_eq!(operations(&found.list), 1, "{}", found.list);
+}
+
+/// The first difference on the damaged requests.
+fn found_damaged(server: &dyn Server) -> Found {
+    let servers = [server, &Second];
+    let found = try_damaged(servers, &mut Tally::default()).err();
+    *found.expect("the fault is found")
+}
+
+#[test]
+fn a_place_that_is_one_off() {
+    let server = Serving(|scene: Scene| {
+        if scene.answer.place != NOWHERE as u64 {
+            scene.answer.place += 1;
+        }
+    });
+    for found in [found(&server), found_damaged(&server)] {
+        assert!(found.difference.what.ends_with("of serve"));
+        assert_eq!(found.list.steps.len(), 1, "{}", found.list);
+    }
+}
+
+#[test]
+fn a_place_that_is_told_without_badxdr() {
+    let server = Serving(|scene: Scene| {
+        let bad = scene.reply.starts_with(&10036u32.to_be_bytes());
+        if scene.answer.number == 0 && !bad {
+            scene.answer.place = scene.answer.read;
+        }
+    });
+    for found in [found(&server), found_damaged(&server)] {
+        assert!(found.difference.what.ends_with("of serve"));
+        assert_eq!(found.list.steps.len(), 1, "{}", found.list);
+    }
 }
 
 #[test]

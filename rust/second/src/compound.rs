@@ -1,7 +1,7 @@
 //! The compound: its header, its operations in order, its reply.
 
 use crate::geometry::Geometry;
-use crate::operation::decode;
+use crate::operation::{decode, Undecoded, Why};
 use crate::runner::Runner;
 use crate::status::{Refusal, Status};
 use crate::store::{check_shape, check_sound, Store};
@@ -17,12 +17,28 @@ const TAG_MAX: u32 = 1024;
 const MINOR_VERSION: u32 = 2;
 const OPERATIONS_MAX: u32 = 12;
 
-/// The answer of `serve`: 0, bytes read and bytes written, or a refusal's number and zeros.
+/// The place where no byte of a request is wrong.
+pub const NOWHERE: usize = 4_294_967_295;
+
+/// The answer of `serve`: 0, bytes read and bytes written, or a refusal's number and zeros; and the
+/// place where the request went wrong.
 #[derive(Clone, Copy, Debug, PartialEq, Eq)]
 pub struct Served {
     pub number: u32,
     pub read: usize,
     pub written: usize,
+    pub place: usize,
+}
+
+impl Served {
+    fn refused(refusal: Refusal, place: usize) -> Served {
+        Served {
+            number: refusal.number(),
+            read: 0,
+            written: 0,
+            place,
+        }
+    }
 }
 
 /// Runs one compound on the store and writes its reply.
@@ -33,7 +49,10 @@ pub fn serve(
     request: &[u8],
     reply: &mut [u8],
 ) -> Served {
-    match admit(geometry, store, verifier, request, reply) {
+    if let Err(refusal) = admit(geometry, store, verifier, request, reply) {
+        return Served::refused(refusal, NOWHERE);
+    }
+    match Header::decode(request) {
         Ok(header) => {
             let run = header.run(Runner::new(geometry, store, verifier));
             let answer = run.reply(header.tag);
@@ -42,24 +61,21 @@ pub fn serve(
                 number: 0,
                 read: run.read,
                 written: answer.len(),
+                place: run.place,
             }
         }
-        Err(refusal) => Served {
-            number: refusal.number(),
-            read: 0,
-            written: 0,
-        },
+        Err(bad) => Served::refused(Refusal::Header, bad.place),
     }
 }
 
-/// Refusals 1 to 6, in this order.
-fn admit<'a>(
+/// Refusals 1 to 5, in this order.
+fn admit(
     geometry: &Geometry,
     store: &Store,
     verifier: &[u8],
-    request: &'a [u8],
+    request: &[u8],
     reply: &[u8],
-) -> Result<Header<'a>, Refusal> {
+) -> Result<(), Refusal> {
     check_shape(geometry, store)?;
     if verifier.len() != VERIFIER_LENGTH {
         return Err(Refusal::Length);
@@ -71,7 +87,7 @@ fn admit<'a>(
     if reply.len() < REPLY_MIN {
         return Err(Refusal::ReplyTooShort);
     }
-    Header::decode(request).map_err(|BadXdr| Refusal::Header)
+    Ok(())
 }
 
 /// The start of a request, and the reader of what follows it.
@@ -98,6 +114,7 @@ impl<'a> Header<'a> {
         let mut run = Run {
             status: Status::Ok,
             read: reader.at(),
+            place: NOWHERE,
             results: Vec::new(),
         };
         if self.minor_version != MINOR_VERSION {
@@ -111,7 +128,7 @@ impl<'a> Header<'a> {
                         run.read = reader.at();
                         run.add(number, runner.run(operation));
                     }
-                    Err(undecoded) => run.add(undecoded.number, Err(undecoded.status)),
+                    Err(undecoded) => run.stop(undecoded),
                 }
                 if run.status != Status::Ok {
                     break;
@@ -127,10 +144,22 @@ struct Run {
     /// The last result's status, which is also the whole reply's.
     status: Status,
     read: usize,
+    place: usize,
     results: Vec<Vec<u8>>,
 }
 
 impl Run {
+    fn stop(&mut self, undecoded: Undecoded) {
+        let status = match undecoded.why {
+            Why::Bytes(bad) => {
+                self.place = bad.place;
+                Status::BadXdr
+            }
+            Why::Status(status) => status,
+        };
+        self.add(undecoded.number, Err(status));
+    }
+
     fn add(&mut self, number: u32, outcome: Result<Vec<u8>, Status>) {
         let (status, body) = match outcome {
             Ok(body) => (Status::Ok, body),

@@ -18,7 +18,7 @@ mod status;
 mod store;
 mod xdr;
 
-pub use compound::{serve, Served, REPLY_MIN, REQUEST_MAX};
+pub use compound::{serve, Served, NOWHERE, REPLY_MIN, REQUEST_MAX};
 pub use frames::{line, GEOMETRY, VERIFIER};
 pub use geometry::Geometry;
 pub use replay::{replay, Verdict};

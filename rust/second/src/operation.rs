@@ -88,27 +88,39 @@ pub(crate) struct Transfer {
 /// An operation that is answered without being run: none of its bytes count as read.
 pub(crate) struct Undecoded {
     pub number: u32,
-    pub status: Status,
+    pub why: Why,
+}
+
+/// Its bytes are wrong, or it has another status.
+pub(crate) enum Why {
+    Bytes(BadXdr),
+    Status(Status),
+}
+
+impl From<BadXdr> for Why {
+    fn from(bad: BadXdr) -> Why {
+        Why::Bytes(bad)
+    }
 }
 
 /// Takes the next operation apart; its number comes first.
 pub(crate) fn decode<'a>(reader: &mut Reader<'a>) -> Result<(u32, Operation<'a>), Undecoded> {
-    let number = reader.u32().map_err(|BadXdr| Undecoded {
+    let number = reader.u32().map_err(|bad| Undecoded {
         number: ILLEGAL,
-        status: Status::BadXdr,
+        why: bad.into(),
     })?;
     if !(number::FIRST..=number::LAST).contains(&number) {
         return Err(Undecoded {
             number: ILLEGAL,
-            status: Status::OpIllegal,
+            why: Why::Status(Status::OpIllegal),
         });
     }
     arguments(number, reader)
         .map(|operation| (number, operation))
-        .map_err(|status| Undecoded { number, status })
+        .map_err(|why| Undecoded { number, why })
 }
 
-fn arguments<'a>(number: u32, reader: &mut Reader<'a>) -> Result<Operation<'a>, Status> {
+fn arguments<'a>(number: u32, reader: &mut Reader<'a>) -> Result<Operation<'a>, Why> {
     Ok(match number {
         number::GETATTR => Operation::GetAttr {
             asked: reader.words(BITMAP_MAX)?,
@@ -121,7 +133,7 @@ fn arguments<'a>(number: u32, reader: &mut Reader<'a>) -> Result<Operation<'a>, 
         number::RESTOREFH => Operation::RestoreFh,
         number::SAVEFH => Operation::SaveFh,
         number::WRITE => write(reader)?,
-        number::SEQUENCE => return Err(Status::SequencePos),
+        number::SEQUENCE => return Err(Why::Status(Status::SequencePos)),
         number::ALLOCATE => Operation::Allocate(length(reader)?),
         number::COPY => Operation::Copy(copy(reader)?),
         number::DEALLOCATE => Operation::Deallocate(length(reader)?),
@@ -132,7 +144,7 @@ fn arguments<'a>(number: u32, reader: &mut Reader<'a>) -> Result<Operation<'a>, 
             what: reader.u32()?,
         },
         number::CLONE => Operation::Clone(transfer(reader)?),
-        _ => return Err(Status::NotSupp),
+        _ => return Err(Why::Status(Status::NotSupp)),
     })
 }
 
@@ -175,18 +187,12 @@ fn transfer(reader: &mut Reader) -> Result<Transfer, BadXdr> {
 }
 
 /// A COPY from another server is not supported; the list of servers is left unread.
-fn copy(reader: &mut Reader) -> Result<Transfer, Status> {
+fn copy(reader: &mut Reader) -> Result<Transfer, Why> {
     let transfer = transfer(reader)?;
     let _consecutive = reader.boolean()?;
     let _synchronous = reader.boolean()?;
     match reader.u32()? {
         0 => Ok(transfer),
-        _ => Err(Status::NotSupp),
-    }
-}
-
-impl From<BadXdr> for Status {
-    fn from(_: BadXdr) -> Status {
-        Status::BadXdr
+        _ => Err(Why::Status(Status::NotSupp)),
     }
 }

@@ -1,8 +1,11 @@
 //! XDR by RFC 4506: big-endian, padded to four with zeros.
 
-/// Missing bytes, or bytes that stand for no value.
+/// Missing bytes, or bytes that stand for no value, and the place of the first fault: the first
+/// missing byte, a pad byte that isn't zero, or the first byte of a number out of range.
 #[derive(Clone, Copy, Debug, PartialEq, Eq)]
-pub(crate) struct BadXdr;
+pub(crate) struct BadXdr {
+    pub place: usize,
+}
 
 /// Reads a request from its start.
 #[derive(Clone)]
@@ -23,13 +26,17 @@ impl<'a> Reader<'a> {
 
     fn take(&mut self, count: usize) -> Result<&'a [u8], BadXdr> {
         let rest = &self.bytes[self.at..];
-        let taken = rest.get(..count).ok_or(BadXdr)?;
+        let missing = BadXdr {
+            place: self.bytes.len(),
+        };
+        let taken = rest.get(..count).ok_or(missing)?;
         self.at += count;
         Ok(taken)
     }
 
     pub fn array<const COUNT: usize>(&mut self) -> Result<[u8; COUNT], BadXdr> {
-        self.take(COUNT)?.try_into().map_err(|_| BadXdr)
+        let taken = self.take(COUNT)?;
+        Ok(taken.try_into().expect("as many bytes as were taken"))
     }
 
     pub fn u32(&mut self) -> Result<u32, BadXdr> {
@@ -42,8 +49,9 @@ impl<'a> Reader<'a> {
 
     /// An enum whose values are 0 to `last`.
     pub fn up_to(&mut self, last: u32) -> Result<u32, BadXdr> {
+        let place = self.at;
         let value = self.u32()?;
-        (value <= last).then_some(value).ok_or(BadXdr)
+        (value <= last).then_some(value).ok_or(BadXdr { place })
     }
 
     pub fn boolean(&mut self) -> Result<bool, BadXdr> {
@@ -60,9 +68,18 @@ impl<'a> Reader<'a> {
     pub fn opaque(&mut self, longest: u32) -> Result<&'a [u8], BadXdr> {
         let length = self.up_to(longest)? as usize;
         let bytes = self.take(length)?;
-        let pad = self.take(pad_of(length))?;
-        let clean = pad.iter().all(|&byte| byte == 0);
-        clean.then_some(bytes).ok_or(BadXdr)
+        for _ in 0..pad_of(length) {
+            self.zero()?;
+        }
+        Ok(bytes)
+    }
+
+    fn zero(&mut self) -> Result<(), BadXdr> {
+        let place = self.at;
+        match self.take(1)? {
+            [0] => Ok(()),
+            _ => Err(BadXdr { place }),
+        }
     }
 }
 

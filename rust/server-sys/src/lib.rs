@@ -12,12 +12,26 @@ pub struct Geometry {
     pub block_size: u64,
 }
 
-/// A call's number, 0 or a refusal, and its two counts.
+/// A count's number, 0 or a refusal, and used and owed blocks.
 #[derive(Clone, Copy, Debug, PartialEq, Eq)]
-pub struct Answer {
+pub struct Counted {
     pub number: u32,
-    pub counts: [u64; 2],
+    pub used: u64,
+    pub owed: u64,
 }
+
+/// A served compound's number, 0 or a refusal, the bytes read and written, and the place where the
+/// request went wrong.
+#[derive(Clone, Copy, Debug, PartialEq, Eq)]
+pub struct Served {
+    pub number: u32,
+    pub read: u64,
+    pub written: u64,
+    pub place: u64,
+}
+
+/// The place where no byte of a request is wrong.
+pub const NOWHERE: u64 = 4_294_967_295;
 
 /// A slot view's number, 0 or a refusal, and the part it shows: of the block memory (0) or of the
 /// page (1), where it starts there, and its length.
@@ -159,7 +173,7 @@ pub fn soundness(geometry: &Geometry, sizes: &[u64], words: &[u32], mem: &[u8]) 
 }
 
 /// Used and owed blocks: 0 and the counts, else 1, 2 or 3 and zeros.
-pub fn count_blocks(geometry: &Geometry, sizes: &[u64], words: &[u32], mem: &[u8]) -> Answer {
+pub fn count_blocks(geometry: &Geometry, sizes: &[u64], words: &[u32], mem: &[u8]) -> Counted {
     let mut counts = [UNSET; 2];
     // SAFETY: see above; `counts` has the two numbers that are set.
     let number = unsafe {
@@ -177,7 +191,8 @@ pub fn count_blocks(geometry: &Geometry, sizes: &[u64], words: &[u32], mem: &[u8
             counts.as_mut_ptr(),
         )
     };
-    Answer { number, counts }
+    let [used, owed] = counts;
+    Counted { number, used, owed }
 }
 
 /// Shows one slot without copying: 0 and its block's part of `mem`, or the whole zero page for a
@@ -215,7 +230,8 @@ pub fn slot_view(
     Shown { number, part }
 }
 
-/// Runs one compound: 0, bytes read and bytes written, else 1 to 6 and zeros.
+/// Runs one compound: 0, bytes read and bytes written, else 1 to 6 and zeros. The place is of the
+/// first wrong byte where the last result's status is BADXDR or the refusal is 6, else `NOWHERE`.
 pub fn serve(
     geometry: &Geometry,
     sizes: &mut [u64],
@@ -224,9 +240,9 @@ pub fn serve(
     verifier: &[u8],
     request: &[u8],
     reply: &mut [u8],
-) -> Answer {
-    let mut counts = [UNSET; 2];
-    // SAFETY: see above; `counts` has the two numbers that are set.
+) -> Served {
+    let mut counts = [UNSET; 3];
+    // SAFETY: see above; `counts` has the three numbers that are set.
     let number = unsafe {
         archive::compound_serve(
             geometry.files,
@@ -248,5 +264,11 @@ pub fn serve(
             counts.as_mut_ptr(),
         )
     };
-    Answer { number, counts }
+    let [read, written, place] = counts;
+    Served {
+        number,
+        read,
+        written,
+        place,
+    }
 }

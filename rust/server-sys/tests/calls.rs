@@ -1,6 +1,9 @@
 //! Each call with good and damaged arguments, and each number of a refusal.
 
-use server_sys::{count_blocks, make_empty, serve, slot_view, soundness, Answer, Geometry, Shown};
+use server_sys::{
+    count_blocks, make_empty, serve, slot_view, soundness, Counted, Geometry, Served, Shown,
+    NOWHERE,
+};
 
 const GEOMETRY: Geometry = Geometry {
     files: 4,
@@ -59,7 +62,7 @@ impl Tables {
         soundness(&self.geometry, &self.sizes, &self.words, &self.mem)
     }
 
-    fn count_blocks(&self) -> Answer {
+    fn count_blocks(&self) -> Counted {
         count_blocks(&self.geometry, &self.sizes, &self.words, &self.mem)
     }
 
@@ -73,7 +76,7 @@ impl Tables {
         slot_view(geometry, sizes, words, mem, page, file, slot)
     }
 
-    fn serve(&mut self, verifier: &[u8], request: &[u8], reply: &mut [u8]) -> Answer {
+    fn serve(&mut self, verifier: &[u8], request: &[u8], reply: &mut [u8]) -> Served {
         serve(
             &self.geometry,
             &mut self.sizes,
@@ -86,19 +89,21 @@ impl Tables {
     }
 
     /// Serves a request; the answer and the bytes written, after which the buffer is untouched.
-    fn reply_to(&mut self, request: &[u8]) -> (Answer, Vec<u8>) {
+    fn reply_to(&mut self, request: &[u8]) -> (Served, Vec<u8>) {
         let mut reply = vec![UNTOUCHED; REPLY];
         let answer = self.serve(&VERIFIER, request, &mut reply);
-        let rest = reply.split_off(answer.counts[1] as usize);
+        let rest = reply.split_off(answer.written as usize);
         assert!(rest.iter().all(|&byte| byte == UNTOUCHED));
         (answer, reply)
     }
 }
 
-fn refused(number: u32) -> Answer {
-    Answer {
+fn refused(number: u32, place: u64) -> Served {
+    Served {
         number,
-        counts: [0, 0],
+        read: 0,
+        written: 0,
+        place,
     }
 }
 
@@ -200,17 +205,14 @@ fn sound_and_damaged_tables() {
 
 #[test]
 fn used_and_owed_blocks() {
-    let counted = |used, owed| Answer {
-        number: 0,
-        counts: [used, owed],
-    };
-    assert_eq!(Tables::empty().count_blocks(), counted(0, 0));
-    assert_eq!(Tables::used().count_blocks(), counted(2, 1));
+    let counted = |number, used, owed| Counted { number, used, owed };
+    assert_eq!(Tables::empty().count_blocks(), counted(0, 0, 0));
+    assert_eq!(Tables::used().count_blocks(), counted(0, 2, 1));
     for (number, tables) in misfits() {
-        assert_eq!(tables.count_blocks(), refused(number));
+        assert_eq!(tables.count_blocks(), counted(number, 0, 0));
     }
     for tables in damaged() {
-        assert_eq!(tables.count_blocks(), refused(3));
+        assert_eq!(tables.count_blocks(), counted(3, 0, 0));
     }
 }
 
@@ -253,7 +255,8 @@ fn a_compound_is_served() {
     let mut tables = Tables::empty();
     let (answer, reply) = tables.reply_to(&request());
     assert_eq!(answer.number, 0);
-    assert_eq!(answer.counts, [request().len() as u64, 28]);
+    assert_eq!((answer.read, answer.written), (request().len() as u64, 28));
+    assert_eq!(answer.place, NOWHERE);
     let expected = "00000000 00000000 00000002 00000016 00000000 0000003b 00000000";
     assert_eq!(reply, hex(expected));
     let mut after = Tables::empty();
@@ -281,12 +284,33 @@ fn data_is_written_and_the_verifier_answered() {
     assert_eq!(tables, after);
 }
 
+#[test]
+fn a_place_is_told() {
+    let putfh = hex("00000000 00000002 00000001 00000016 00000001 61000100");
+    for (request, status, place) in [
+        (&request()[..request().len() - 1], 10036, request().len() as u64 - 1),
+        (&putfh, 10036, 22),
+        (&putfh[..23], 10036, 22),
+        (&putfh[..18], 10036, 18),
+        (&request(), 0, NOWHERE),
+    ] {
+        let (answer, reply) = Tables::empty().reply_to(request);
+        assert_eq!((answer.number, answer.place), (0, place));
+        assert_eq!(reply[..4], u32::to_be_bytes(status));
+    }
+}
+
 /// Serves with these arguments and sees that nothing but the answer comes of it.
 fn check_refused(number: u32, mut tables: Tables, verifier: &[u8], request: &[u8], reply: usize) {
     let before = tables.clone();
     let mut buffer = vec![UNTOUCHED; reply];
     let answer = tables.serve(verifier, request, &mut buffer);
-    assert_eq!(answer, refused(number));
+    // The headers here are cut off.
+    let place = match number {
+        6 => request.len() as u64,
+        _ => NOWHERE,
+    };
+    assert_eq!(answer, refused(number, place));
     assert_eq!(tables, before);
     assert!(buffer.iter().all(|&byte| byte == UNTOUCHED));
 }

@@ -6,6 +6,7 @@ mod both_sides;
 mod compounds;
 mod edits;
 mod frames;
+mod places;
 mod reading;
 mod refusals;
 mod statuses;

@@ -193,7 +193,8 @@ fn two_the_verifier_and_the_zero_page() {
             Served {
                 number: 2,
                 read: 0,
-                written: 0
+                written: 0,
+                place: 4_294_967_295
             }
         );
     }

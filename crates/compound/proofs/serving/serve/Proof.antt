@@ -6,7 +6,7 @@ use Rattle.compound.proofs.serving.serve.Statement.{statement}
 use Rattle.compound.proofs.serving.serve.Tie as tie
 
 returns : tie.Need-returns
-returns c = let t = c .before in refused-1 _ _ _ _ _ (sym (t .before .good2 .ensures) ∙ not-true _ (t .if1 .taken)) _ _ _ (c .refused .ensures)
+returns c = let t = c .before in refused-1 _ _ _ _ _ (sym (t .before .good2 .ensures) ∙ not-true _ (t .if1 .taken)) _ (c .refused .ensures)
 
 good-lengths-requires : tie.Need-good-lengths-requires
 good-lengths-requires c κs = let t = c .before .before .before in sym (t .before .good2 .ensures) ∙ not-false _ (t .if1 .left)
@@ -15,14 +15,14 @@ returns-2 : tie.Need-returns-2
 returns-2 c =
     let l = c .before .before in
     let t = l .before .before .before .before in
-    refused-2 _ _ _ _ _ (sym (t .before .good2 .ensures) ∙ not-false _ (t .if1 .left)) (sym (l .good-lengths .ensures) ∙ not-true _ (c .before .if2 .taken)) _ _ _ (c .refused2 .ensures)
+    refused-2 _ _ _ _ _ (sym (t .before .good2 .ensures) ∙ not-false _ (t .if1 .left)) (sym (l .good-lengths .ensures) ∙ not-true _ (c .before .if2 .taken)) _ (c .refused2 .ensures)
 
 returns-3 : tie.Need-returns-3
 returns-3 c =
     let l = c .before .before .before in
     let t = l .before .before .before .before in
     refused-2-verifier _ _ _ _ _ (sym (t .before .good2 .ensures) ∙ not-false _ (t .if1 .left)) (sym (l .good-lengths .ensures) ∙ not-false _ (c .before .before .if2 .left))
-    (c .before .if3 .taken) _ _ _ (c .refused3 .ensures)
+    (c .before .if3 .taken) _ (c .refused3 .ensures)
 
 serve-shaped-requires : tie.Need-serve-shaped-requires
 serve-shaped-requires c κs =

@@ -11,7 +11,7 @@ returns c =
     let y = c .before .before .before .before .before in
     let s = y .before .before .before .before .before .before .before .before .before .before .before in
     let t = s .pre in
-    refused-3 _ _ _ _ _ (t .shaped .geometry) (t .shaped .lengths) (length-u64 _) (survey-unsound t (y .survey-tables .ensures) (c .before .if1 .taken)) _ _ _ (c .refused .ensures)
+    refused-3 _ _ _ _ _ (t .shaped .geometry) (t .shaped .lengths) (length-u64 _) (survey-unsound t (y .survey-tables .ensures) (c .before .if1 .taken)) _ (c .refused .ensures)
 
 returns-2 : tie.Need-returns-2
 returns-2 c =
@@ -19,7 +19,7 @@ returns-2 c =
     let s = y .before .before .before .before .before .before .before .before .before .before .before in
     let t = s .pre in
     refused-4 _ _ _ _ _ (t .shaped .geometry) (t .shaped .lengths) (length-u64 _) (survey-sound t (y .survey-tables .ensures) (c .before .before .if1 .left))
-    (c .before .if2 .taken) _ _ _ (c .refused2 .ensures)
+    (c .before .if2 .taken) _ (c .refused2 .ensures)
 
 returns-3 : tie.Need-returns-3
 returns-3 c =
@@ -27,16 +27,7 @@ returns-3 c =
     let s = y .before .before .before .before .before .before .before .before .before .before .before in
     let t = s .pre in
     refused-5 _ _ _ _ _ (t .shaped .geometry) (t .shaped .lengths) (length-u64 _) (survey-sound t (y .survey-tables .ensures) (c .before .before .before .if1 .left))
-    (c .before .before .if2 .left) (c .before .if3 .taken) _ _ _ (c .refused3 .ensures)
-
-returns-4 : tie.Need-returns-4
-returns-4 c =
-    let k = c .before .before .before in
-    let y = k .before .before .before .before .before .before .before in
-    let s = y .before .before .before .before .before .before .before .before .before .before .before in
-    let t = s .pre in
-    refused-6 _ _ _ _ _ (t .shaped .geometry) (t .shaped .lengths) (length-u64 _) (survey-sound t (y .survey-tables .ensures) (k .before .before .before .if1 .left))
-    (k .before .before .if2 .left) (k .before .if3 .left) (sym (k .header .ensures) ∙ ap (ofHeader (s .args .s .now)) (c .before .enum-told .given .1)) _ _ _ (c .refused4 .ensures)
+    (c .before .before .if2 .left) (c .before .if3 .taken) _ (c .refused3 .ensures)
 
 serve-operations-requires : tie.Need-serve-operations-requires
 serve-operations-requires c κs =
@@ -50,8 +41,8 @@ serve-operations-requires c κs =
       tag-short _ (sym (k .header .ensures) ∙ ap (ofHeader (s .args .s .now)) (d .h .given .1)),
     )
 
-returns-5 : tie.Need-returns-5
-returns-5 c =
+returns-4 : tie.Need-returns-4
+returns-4 c =
     let o = c .before .before .before .before .before .before .before .before .before .before in
     let d = o .before .before .before .before .before .before .before in
     let k = d .before .before in
@@ -60,6 +51,15 @@ returns-5 c =
     let t = s .pre in
     serves _ _ _ _ _ (t .shaped .geometry) (t .shaped .lengths) (length-u64 _) (survey-sound t (y .survey-tables .ensures) (k .before .before .before .if1 .left))
     (k .before .before .if2 .left) (k .before .if3 .left) (sym (k .header .ensures) ∙ ap (ofHeader (s .args .s .now)) (d .h .given .1)) (o .serve-operations .ensures)
+
+returns-5 : tie.Need-returns-5
+returns-5 c =
+    let k = c .before .before .before .before in
+    let y = k .before .before .before .before .before .before .before in
+    let s = y .before .before .before .before .before .before .before .before .before .before .before in
+    let t = s .pre in
+    refused-6 _ _ _ _ _ (t .shaped .geometry) (t .shaped .lengths) (length-u64 _) (survey-sound t (y .survey-tables .ensures) (k .before .before .before .if1 .left))
+    (k .before .before .if2 .left) (k .before .if3 .left) (sym (k .header .ensures) ∙ ap (ofHeader (s .args .s .now)) (c .before .before .p .given .1)) _ (c .bad-header .ensures)
 
 pub serve-counted-spec : {M : Type 1} → statement M
 serve-counted-spec =
@@ -71,7 +71,6 @@ serve-counted-spec =
     returns-2
     (λ c κs. search needs) (λ c. search needs) (λ c. search needs) (λ c. search needs) (λ c. search needs)
     returns-3
-    (λ c κs. search needs) (λ c. search needs) (λ c. search needs) (λ c κs. search needs) (λ c. search needs)
-    (λ c. search needs) (λ c. search needs) (λ c. search needs) returns-4
-    serve-operations-requires (λ c. search needs) (λ c. search needs) (λ c. search needs) (λ c. search needs)
-    (λ c. search needs) returns-5)
+    (λ c κs. search needs) (λ c. search needs) serve-operations-requires (λ c. search needs) (λ c κs. search needs)
+    (λ c. search needs) (λ c. search needs) (λ c. search needs) (λ c. search needs) (λ c. search needs) returns-4
+    (λ c. search needs) (λ c. search needs) (λ c. search needs) (λ c. search needs) returns-5)

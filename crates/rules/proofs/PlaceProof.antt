@@ -1,0 +1,269 @@
+-- The place of a fault: what it says of the request's bytes, and that the answer is otherwise what it is without it.
+use Prim.Native.Nat.{ℕ, zero, suc, _≤_}
+use mathlib.Core.Path.{_≡_, refl, sym, ap, _∙_, subst}
+use mathlib.Core.Bool.{Bool, true, false, cond, not}
+use mathlib.Core.Option.{Option, none, some}
+use mathlib.Core.List.{List, [], _∷_}
+use mathlib.Core.Logic.{_≢_, _⊎_, inl, inr}
+use native.Mathlib.Omega.{arith}
+use borrow.Author.Tests.{eq-eqb, ne-eqb}
+use lib.Dec.{ltb, eqb}
+use lib.ListN.{take}
+use Rattle.xdr.specs.Decode.{Parsed, got, fault, andThen, stop, Reader, ret, number}
+use Rattle.xdr.specs.Layout.{Layout, uint, hyper, upToLimit, boolean, bytes, opaqueData, anyLength, _then_}
+use Rattle.xdr.proofs.Onward.{Onward, ret-onward, then-onward, fixed-onward, number-onward, bounded-onward, opaque-onward, array-onward, both-onward, boolean-onward, mended}
+use Rattle.rules.specs.Lists.{first}
+use Rattle.rules.specs.Store.{Geometry, Store}
+use Rattle.rules.specs.Operation.{NOTSUPP, MINOR-VERS-MISMATCH, BADXDR, TOO-MANY-OPS, OP-ILLEGAL, SEQUENCE-POS, Op, GETATTR, GETFH, RESTOREFH, SAVEFH, PUTFH, READ, READ-PLUS, ALLOCATE, DEALLOCATE, SEEK, stateid, handleArgs, bitmapArgs, readArgs, writeArgs, regionArgs, cloneArgs, copyArgs, three, writeOf, cloneOf, copyOf, reading, readers, find, Item, op, bad, argsItem, SEQUENCE, isOperation, ILLEGAL, unserved, numberItem, itemAt, items, Header, headerLayout, header}
+use Rattle.rules.specs.Fault.{NOWHERE, argsBy, opReader, faultAt}
+use Rattle.rules.specs.Run.{State, Config, config, Event, perform, reached}
+use Rattle.rules.specs.Calls.{fresh, headerStatus, compound, lastStatus, lastPlace, Call, refusal, withPlace, served, answerNoPlace, lastFault, placeOf, answer}
+use Rattle.rules.specs.Claim.{Ran}
+use Rattle.rules.specs.Place.{opsReader, requestReader, Mends, OutOfRange, PlaceRight, PlaceTold, PlaceClaim}
+use Rattle.rules.proofs.GeometryLaws.{Good}
+use Rattle.rules.proofs.OperationLaws.{performed, performed-item}
+use Rattle.rules.proofs.ChainLaws.{Chain, cons, chain-start, performed-decodes}
+use Rattle.rules.proofs.AnswerLaws.{Accepted, Refusal, early, no-header, accepted-or-refused, refusal-most, refused-no-place, refused-is, refused-call, passed, zs, status, accepted-chain, served-no-place, ran-is, number-is, read-is}
+use Rattle.rules.proofs.ClaimProof.{some-ran, none-ran}
+
+-- ---- every reader of a request goes on
+
+reading-onward : {A : Type 0} (l : Layout A) (make : A → Option Op) → Onward (l .read) → Onward (reading l make)
+reading-onward l make h = then-onward (l .read) (λ a. ret (make a)) h (λ a. ret-onward (make a))
+
+-- stateid and offset, and what follows
+start-onward : {A : Type 0} (l : Layout A) → Onward (l .read) → Onward ((stateid then hyper then l) .read)
+start-onward l h = both-onward stateid (hyper then l) (fixed-onward 16) (both-onward hyper l (number-onward 8) h)
+
+write-onward : Onward (writeArgs .read)
+write-onward =
+    start-onward (upToLimit 2 then opaqueData anyLength) (both-onward (upToLimit 2) (opaqueData anyLength) (bounded-onward 2) (opaque-onward anyLength))
+
+clone-onward : Onward (cloneArgs .read)
+clone-onward =
+    both-onward stateid (stateid then hyper then hyper then hyper) (fixed-onward 16)
+    (start-onward (hyper then hyper) (both-onward hyper hyper (number-onward 8) (number-onward 8)))
+
+copy-onward : Onward (copyArgs .read)
+copy-onward =
+    both-onward cloneArgs (boolean then boolean then uint) clone-onward
+    (both-onward boolean (boolean then uint) boolean-onward (both-onward boolean uint boolean-onward (number-onward 4)))
+
+infixr 40 _and_
+data AllOnward : List (ℕ × Reader (Option Op)) → Type 0 where
+  end : AllOnward []
+  _and_ : {n : ℕ} {r : Reader (Option Op)} {rs : List (ℕ × Reader (Option Op))} → Onward r → AllOnward rs → AllOnward ((n, r) ∷ rs)
+
+-- a row for each operation
+readers-onward : AllOnward readers
+readers-onward =
+    reading-onward bitmapArgs (λ ws. some (GETATTR ws)) (array-onward 4)
+    and ret-onward (some GETFH)
+    and reading-onward handleArgs (λ h. some (PUTFH h)) (opaque-onward 128)
+    and reading-onward readArgs (λ a. some (three READ a)) (start-onward uint (number-onward 4))
+    and ret-onward (some RESTOREFH)
+    and ret-onward (some SAVEFH)
+    and reading-onward writeArgs (λ a. some (writeOf a)) write-onward
+    and reading-onward regionArgs (λ a. some (three ALLOCATE a)) (start-onward hyper (number-onward 8))
+    and reading-onward copyArgs copyOf copy-onward
+    and reading-onward regionArgs (λ a. some (three DEALLOCATE a)) (start-onward hyper (number-onward 8))
+    and reading-onward readArgs (λ a. some (three READ-PLUS a)) (start-onward uint (number-onward 4))
+    and reading-onward readArgs (λ a. some (three SEEK a)) (start-onward uint (number-onward 4))
+    and reading-onward cloneArgs (λ a. some (cloneOf a)) clone-onward
+    and end
+
+find-onward : {rs : List (ℕ × Reader (Option Op))} → AllOnward rs → (n : ℕ) → Onward (argsBy (find n rs))
+find-onward end n = ret-onward none
+find-onward (_and_ {n = m} {r = r} {rs = rs} h k) n = go (eqb n m) (find-onward k n)
+  where
+    go : (t : Bool) → Onward (argsBy (find n rs)) → Onward (argsBy (cond t (some r) (find n rs)))
+    go true ih = h
+    go false ih = ih
+
+op-onward : Onward opReader
+op-onward = then-onward (number 4) (λ n. argsBy (find n readers)) (number-onward 4) (find-onward readers-onward)
+
+ops-onward : (n : ℕ) → Onward (opsReader n)
+unfolding opsReader
+ops-onward zero = ret-onward tt
+ops-onward (suc n) = then-onward opReader (λ o. elim o [ none ↦ ret tt | some o ↦ opsReader n ]) op-onward (λ o. go o (ops-onward n))
+  where
+    go : (o : Option Op) → Onward (opsReader n) → Onward {A = Unit {0}} (elim o [ none ↦ ret tt | some o ↦ opsReader n ])
+    go none h = ret-onward tt
+    go (some o) h = h
+
+request-onward : Onward requestReader
+unfolding requestReader header
+request-onward =
+    then-onward header (λ h. opsReader (h .ops))
+    (then-onward (headerLayout .read) (λ a. ret (record { tag = a .0; minor = a .1 .0; ops = a .1 .1 }))
+    (both-onward (opaqueData 1024) (uint then uint) (opaque-onward 1024) (both-onward uint uint (number-onward 4) (number-onward 4))) (λ a. ret-onward _))
+    (λ h. ops-onward (h .ops))
+
+-- ---- what stands at a place, and how it is read
+
+data Tells : Item → Parsed (Option Op) → Type 0 where
+  reads : (o : Op) (next : ℕ) → Tells (op o next) (got (some o) next)
+  faults : (k p : ℕ) → Tells (bad k BADXDR) (fault p)
+  unlike : (k e next : ℕ) → e ≢ BADXDR → Tells (bad k e) (got none next)
+
+args-tell : (n : ℕ) (t : Parsed (Option Op)) → Tells (argsItem n t) t
+args-tell n (fault p) = faults n p
+args-tell n (got none next) = unlike n NOTSUPP next (λ e. omega (arith, e))
+args-tell n (got (some o) next) = reads o next
+
+unserved-tells : (n next : ℕ) → Tells (unserved n) (got none next)
+unserved-tells n next = go (eqb n SEQUENCE) (isOperation n)
+  where
+    go : (a b : Bool) → Tells (cond a (bad SEQUENCE SEQUENCE-POS) (cond b (bad n NOTSUPP) (bad ILLEGAL OP-ILLEGAL))) (got none next)
+    go true b = unlike SEQUENCE SEQUENCE-POS next (λ e. omega (arith, e))
+    go false true = unlike n NOTSUPP next (λ e. omega (arith, e))
+    go false false = unlike ILLEGAL OP-ILLEGAL next (λ e. omega (arith, e))
+
+item-tells : (s : List ℕ) (at : ℕ) → Tells (itemAt s at) (opReader s at)
+unfolding itemAt
+item-tells s at = go (number 4 s at)
+  where
+    by : (n m : ℕ) (u : Option (Reader (Option Op))) → Tells (elim u [ none ↦ unserved n | some r ↦ argsItem n (r s m) ]) (argsBy u s m)
+    by n m none = unserved-tells n m
+    by n m (some r) = args-tell n (r s m)
+
+    go : (t : Parsed ℕ) → Tells (numberItem s t) (andThen t (λ n next. argsBy (find n readers) s next))
+    go (fault p) = faults ILLEGAL p
+    go (got n m) = by n m (find n readers)
+
+-- ---- the operations reached: where the last one's status is BADXDR, its fault is the first of the list
+
+record FirstFault (s : List ℕ) (n at q : ℕ) : Type 0 where
+  list : opsReader n s at ≡ fault (faultAt s q)
+  item : opReader s q ≡ fault (faultAt s q)
+
+first-fault : (g : Geometry) → Good g → (v s : List ℕ) (n at : ℕ) (x : State) (a : ℕ) → Chain g x (reached (config g v) x (items s n at)) → a ≢ BADXDR
+    → lastStatus a (reached (config g v) x (items s n at)) ≡ BADXDR → FirstFault s n at (lastPlace at (reached (config g v) x (items s n at)))
+unfolding reached items opsReader faultAt
+first-fault g bd v s zero at x a ch na e = absurd (na e)
+first-fault g bd v s (suc n) at x a ch na e =
+    go (item-tells s at) refl (λ next y. first-fault g bd v s n next y) ch e
+  where
+    c : Config
+    c = config g v
+
+    behind : (o : Op) (next : ℕ) → opReader s at ≡ got (some o) next → {q : ℕ} → FirstFault s n next q → FirstFault s (suc n) at q
+    behind o next r f = record { list = rw r (f .list); item = f .item }
+
+    pick : (o : Op) (next : ℕ) → opReader s at ≡ got (some o) next → (z : Event) → z .item ≡ op o next → z .status ≢ BADXDR
+        → ((y : State) (b : ℕ) → Chain g y (reached c y (items s n next)) → b ≢ BADXDR → lastStatus b (reached c y (items s n next)) ≡ BADXDR
+        → FirstFault s n next (lastPlace next (reached c y (items s n next))))
+        → (t : ℕ) → z .status ≡ t
+        → Chain g x (elim t [ zero ↦ z ∷ reached c (z .after) (items s n next) | suc e ↦ z ∷ [] ])
+        → lastStatus a (elim t [ zero ↦ z ∷ reached c (z .after) (items s n next) | suc e ↦ z ∷ [] ]) ≡ BADXDR
+        → FirstFault s (suc n) at (lastPlace at (elim t [ zero ↦ z ∷ reached c (z .after) (items s n next) | suc e ↦ z ∷ [] ]))
+    pick o next r z i k ih zero t (cons st b f rest) e = behind o next r (rw i (ih (z .after) (z .status) rest k e))
+    pick o next r z i k ih (suc d) t ch e = absurd (k e)
+
+    go : {i : Item} {t : Parsed (Option Op)} → Tells i t → opReader s at ≡ t
+        → ((next : ℕ) (y : State) (b : ℕ) → Chain g y (reached c y (items s n next)) → b ≢ BADXDR → lastStatus b (reached c y (items s n next)) ≡ BADXDR
+        → FirstFault s n next (lastPlace next (reached c y (items s n next))))
+        → Chain g x (reached c x (elim i [ op o next ↦ op o next ∷ items s n next | bad k e ↦ bad k e ∷ [] ]))
+        → lastStatus a (reached c x (elim i [ op o next ↦ op o next ∷ items s n next | bad k e ↦ bad k e ∷ [] ])) ≡ BADXDR
+        → FirstFault s (suc n) at (lastPlace at (reached c x (elim i [ op o next ↦ op o next ∷ items s n next | bad k e ↦ bad k e ∷ [] ])))
+    go (reads o next) r ih ch e =
+        let z = perform c x o next in
+        let p = performed c x o next in
+        pick o next r z (performed-item p) (performed-decodes g bd (chain-start g bd ch) p) (ih next) (z .status) refl ch e
+    go (faults k p) r ih ch e = record { list = rw r; item = rw r }
+    go (unlike k d next h) r ih ch e = absurd (h e)
+
+-- ---- a call
+
+pub header-decodes : (h : Header) → headerStatus h ≢ BADXDR
+header-decodes h = go (not (eqb (h .minor) 2)) (ltb 12 (h .ops))
+  where
+    go : (t u : Bool) → first ((t, MINOR-VERS-MISMATCH) ∷ (u, TOO-MANY-OPS) ∷ []) ≢ BADXDR
+    go true u e = omega (arith, e)
+    go false true e = omega (arith, e)
+    go false false e = omega (arith, e)
+
+module _ {c : Call} {st : Store} {h : Header} {at : ℕ} (a : Accepted c st h at) where
+  -- where the reply's status is BADXDR, the fault is the first of the list
+  found : status a ≡ BADXDR → FirstFault (c .request) (h .ops) at (lastPlace at (zs a))
+  unfolding compound
+  found e = go (headerStatus h) (accepted-chain a) e
+    where
+      run : ℕ → List Event
+      run n = elim n [ zero ↦ reached (c .config) (fresh st) (items (c .request) (h .ops) at) | suc e ↦ [] ]
+
+      go : (n : ℕ) → Chain (c .config .geometry) (fresh st) (run n) → lastStatus (headerStatus h) (run n) ≡ BADXDR → FirstFault (c .request) (h .ops) at (lastPlace at (run n))
+      go zero ch e =
+          first-fault (c .config .geometry) (passed (a .passes) .bounds) (c .config .verifier) (c .request) (h .ops) at (fresh st) (headerStatus h) ch (header-decodes h) e
+      go (suc n) ch e = absurd (header-decodes h e)
+
+  served-place : answer c st .place ≡ cond (eqb (status a) BADXDR) (faultAt (c .request) (lastPlace at (zs a))) NOWHERE
+  unfolding answer placeOf lastFault
+  served-place = rw (a .passes, placeOf) (rw (a .decoded))
+
+  fault-place : status a ≡ BADXDR → answer c st .place ≡ faultAt (c .request) (lastPlace at (zs a))
+  fault-place e = served-place ∙ rw (eq-eqb (status a) BADXDR e)
+
+  no-fault-place : status a ≢ BADXDR → answer c st .place ≡ NOWHERE
+  no-fault-place n = served-place ∙ rw (ne-eqb (status a) BADXDR n)
+
+early-place : (c : Call) (st : Store) (k : ℕ) → refusal c st ≡ suc k → answer c st .place ≡ NOWHERE
+unfolding answer placeOf
+early-place c st k e = rw (e, placeOf)
+
+header-place : (c : Call) (st : Store) (p : ℕ) → refusal c st ≡ 0 → header (c .request) 0 ≡ fault p → answer c st .place ≡ p
+unfolding answer placeOf
+header-place c st p e d = rw (e, placeOf) (rw d)
+
+-- what is known of the first fault of a request, in a part that starts at or before it
+place-right : (s : List ℕ) (start p : ℕ) → start ≤ p → requestReader s 0 ≡ fault p → PlaceRight s start p
+place-right s start p h e = let m = mended requestReader request-onward s 0 p (omega arith) e in record { first = e; from = h; to = m .1; before = go (m .2) }
+  where
+    go : ((t : List ℕ) × (take p t ≡ take p s) × (a : Unit {0}) × (next : ℕ) × (requestReader t 0 ≡ got a next)) ⊎ OutOfRange s p → Mends s p ⊎ OutOfRange s p
+    go (inl t) = inl (t .0, t .1, t .3, t .4)
+    go (inr q) = inr q
+
+-- of the header
+header-right : (c : Call) (st : Store) (p : ℕ) → refusal c st ≡ 0 → header (c .request) 0 ≡ fault p → PlaceRight (c .request) 0 (answer c st .place)
+unfolding requestReader
+header-right c st p e d = rw (header-place c st p e d) (place-right (c .request) 0 p (omega arith) (rw d))
+
+-- of the last operation reached
+operation-right : {c : Call} {st : Store} {h : Header} {at : ℕ} (a : Accepted c st h at) → status a ≡ BADXDR → PlaceRight (c .request) (answer c st .read) (answer c st .place)
+unfolding requestReader
+operation-right {c} {st} {h} {at} a e =
+    let f = found a e in
+    let q = lastPlace at (zs a) in
+    let from : q ≤ faultAt (c .request) q = subst (λ (t : Parsed (Option Op)). q ≤ stop t) (f .item) (op-onward .forth (c .request) q) in
+    rw (fault-place a e, read-is a) (place-right (c .request) q (faultAt (c .request) q) from (rw (a .decoded) (f .list)))
+
+pub places : PlaceClaim
+places c st = go (accepted-or-refused c st)
+  where
+    go : ((h : Header) × (at : ℕ) × Accepted c st h at) ⊎ ((k : ℕ) × Refusal c st k) → PlaceTold c st
+    go (inl (h, at, a)) = record {
+      header = λ e. absurd (omega (arith, e, number-is a));
+      operation = λ r e b. operation-right a (ap (λ (o : Ran). o .status) (some-ran _ r (sym (ran-is a) ∙ e)) ∙ b);
+      nowhere = λ n k. no-fault-place a (k _ (ran-is a));
+    }
+    go (inr (k, early j e)) = record {
+      header = λ q. absurd (omega (arith, q, ap (λ o. o .number) (refused-is (early j e)), e, refusal-most c st));
+      operation = λ r q b. absurd (none-ran r (sym (refused-call (early j e) .nothing-run) ∙ q));
+      nowhere = λ n k. early-place c st j e;
+    }
+    go (inr (k, no-header p e d)) = record {
+      header = λ q. header-right c st p e d;
+      operation = λ r q b. absurd (none-ran r (sym (refused-call (no-header p e d) .nothing-run) ∙ q));
+      nowhere = λ n k. absurd (n (ap (λ o. o .number) (refused-is (no-header p e d))));
+    }
+
+-- ---- the rest of the answer is what it is without the place
+
+pub without-place : (c : Call) (st : Store) → withPlace NOWHERE (answer c st) ≡ answerNoPlace c st
+unfolding answer served
+without-place c st = go (accepted-or-refused c st)
+  where
+    go : ((h : Header) × (at : ℕ) × Accepted c st h at) ⊎ ((k : ℕ) × Refusal c st k) → withPlace NOWHERE (answer c st) ≡ answerNoPlace c st
+    go (inl (h, at, a)) = ap (withPlace NOWHERE) (served-no-place a) ∙ sym (served-no-place a)
+    go (inr (k, r)) = ap (withPlace NOWHERE) (refused-no-place r) ∙ sym (refused-no-place r)

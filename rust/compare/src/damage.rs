@@ -1,4 +1,4 @@
-//! Each operation in a request that is cut after every byte, and of which every byte is changed.
+//! Each operation in a request that is cut after every byte, of which every byte is changed, or both.
 
 use second::GEOMETRY;
 
@@ -13,9 +13,9 @@ use crate::wire::{self, Transfer, ZEROS};
 pub fn try_damaged(servers: [&dyn Server; 2], tally: &mut Tally) -> Result<(), Box<Found>> {
     for operation in operations() {
         let whole = request(&operation);
-        for edit in edits(&whole.bytes()) {
+        for edits in edits(&whole.bytes()) {
             let damaged = Request {
-                edits: vec![edit],
+                edits,
                 ..whole.clone()
             };
             let list = List {
@@ -100,15 +100,20 @@ fn operations() -> Vec<Vec<u8>> {
     operations
 }
 
-/// Cut after each byte; and each byte with each bit changed, and with all.
-fn edits(whole: &[u8]) -> Vec<Edit> {
+/// Cut after each byte; each byte with each bit changed, and with all; and a byte changed where the
+/// request ends up to three bytes behind it.
+fn edits(whole: &[u8]) -> Vec<Vec<Edit>> {
+    let cut = |length| Edit::Cut { length };
+    let changed = |at: usize, mask: u8| Edit::Set {
+        at,
+        byte: whole[at] ^ mask,
+    };
     let masks = || (0..8).map(|bit| 1 << bit).chain([255]);
-    let cuts = (0..=whole.len()).map(|length| Edit::Cut { length });
-    let changes = whole.iter().enumerate().flat_map(|(at, &byte)| {
-        masks().map(move |mask: u8| Edit::Set {
-            at,
-            byte: byte ^ mask,
-        })
-    });
-    cuts.chain(changes).collect()
+    let cuts = (0..=whole.len()).map(|length| vec![cut(length)]);
+    let places = 0..whole.len();
+    let changes = places
+        .clone()
+        .flat_map(|at| masks().map(move |mask| vec![changed(at, mask)]));
+    let both = places.flat_map(|at| (1..=3).map(move |n| vec![changed(at, 1), cut(at + n)]));
+    cuts.chain(changes).chain(both).collect()
 }

@@ -32,11 +32,21 @@ pub enum Part {
 }
 
 pub enum Found {
-    Nothing { read: usize },
-    /// Operation `number` ends the list, and its arguments are not looked at.
-    Unread { number: usize, status: &'static str },
-    Refused { number: u32 },
-    Fault { part: Part, place: usize },
+    Nothing {
+        read: usize,
+    },
+    /// Operation `number` ends the list, and its arguments are not looked at; 0 where there is none.
+    Unread {
+        number: usize,
+        status: &'static str,
+    },
+    Refused {
+        number: u32,
+    },
+    Fault {
+        part: Part,
+        place: usize,
+    },
 }
 
 /// Goes on behind each operation that fails for another reason than its bytes: on the store that
@@ -66,7 +76,6 @@ pub fn ask(request: &[u8]) -> Found {
             return Found::Fault { part, place };
         }
         if let Some(&(_, status)) = UNREAD.iter().find(|unread| unread.0 == status) {
-            let number = number.max(1);
             return Found::Unread { number, status };
         }
         let left = operations(&rest) - results;

@@ -23,9 +23,15 @@ pub fn say(line: &str) -> Option<Said> {
             decodes: true,
             text: format!("nothing is wrong: {read} of {} bytes read\n", request.len()),
         },
+        Found::Unread { number: 0, status } => Said {
+            decodes: true,
+            text: format!("nothing is wrong in the header, and no operation is read: {status}\n"),
+        },
         Found::Unread { number, status } => Said {
             decodes: true,
-            text: format!("nothing is wrong up to operation {number}, which is not read: {status}\n"),
+            text: format!(
+                "nothing is wrong up to operation {number}, which is not read: {status}\n"
+            ),
         },
         Found::Refused { number } => Said {
             decodes: true,
@@ -40,7 +46,9 @@ pub fn say(line: &str) -> Option<Said> {
 
 fn bytes(line: &str) -> Option<Vec<u8>> {
     let digits = line.chars().filter(|digit| !digit.is_whitespace());
-    let digits: Vec<u32> = digits.map(|digit| digit.to_digit(16)).collect::<Option<_>>()?;
+    let digits: Vec<u32> = digits
+        .map(|digit| digit.to_digit(16))
+        .collect::<Option<_>>()?;
     let pairs = digits.chunks_exact(2);
     let even = pairs.remainder().is_empty();
     even.then(|| pairs.map(|pair| (16 * pair[0] + pair[1]) as u8).collect())

@@ -26,7 +26,12 @@ fn run() -> u8 {
         }
     };
     let worst = match arguments.is_empty() {
-        true => io::stdin().lock().lines().map_while(Result::ok).map(show).max(),
+        true => io::stdin()
+            .lock()
+            .lines()
+            .map_while(Result::ok)
+            .map(show)
+            .max(),
         false => arguments.into_iter().map(show).max(),
     };
     worst.unwrap_or(0)

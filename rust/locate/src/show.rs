@@ -28,9 +28,9 @@ pub fn fault(request: &[u8], part: Part, place: usize) -> String {
     format!("byte {place} {what}\nin {title}, from byte {start} on\nfield: {field}\n\n{rows}")
 }
 
-/// The rows from the start of the part to the fault, and a mark under the byte.
+/// The rows from the byte before the part to the fault, and a mark under the byte.
 fn rows(request: &[u8], start: usize, place: usize) -> String {
-    let (first, last) = (start / ROW, place / ROW);
+    let (first, last) = (start.saturating_sub(1) / ROW, place / ROW);
     let mut text = String::new();
     for row in first..=last {
         if row > first && row + ROWS <= last {
@@ -39,24 +39,27 @@ fn rows(request: &[u8], start: usize, place: usize) -> String {
             }
             continue;
         }
-        text.push_str(&format!("{:>8} ", row * ROW));
+        text.push_str(&format!("{:>8}", row * ROW));
         let bytes = request.iter().enumerate().skip(row * ROW).take(ROW);
         for (at, byte) in bytes {
-            text.push_str(gap(at));
+            text.push_str(gap(row * ROW, at));
             text.push_str(&format!("{byte:02x}"));
         }
         text.push('\n');
     }
-    let before: usize = (last * ROW..place).map(|at| gap(at).len() + 2).sum();
-    let indent = 9 + before + gap(place).len();
+    let before: usize = (last * ROW..place)
+        .map(|at| gap(last * ROW, at).len() + 2)
+        .sum();
+    let indent = 8 + before + gap(last * ROW, place).len();
     text.push_str(&format!("{:indent$}^^\n", ""));
     text
 }
 
-/// Four bytes stand together.
-fn gap(at: usize) -> &'static str {
-    match at % 4 {
-        0 => " ",
+/// What stands in front of a byte: four stand together, and the row's first behind its place.
+fn gap(row: usize, at: usize) -> &'static str {
+    match at - row {
+        0 => "  ",
+        place if place % 4 == 0 => " ",
         _ => "",
     }
 }

@@ -288,7 +288,11 @@ fn data_is_written_and_the_verifier_answered() {
 fn a_place_is_told() {
     let putfh = hex("00000000 00000002 00000001 00000016 00000001 61000100");
     for (request, status, place) in [
-        (&request()[..request().len() - 1], 10036, request().len() as u64 - 1),
+        (
+            &request()[..request().len() - 1],
+            10036,
+            request().len() as u64 - 1,
+        ),
         (&putfh, 10036, 22),
         (&putfh[..23], 10036, 22),
         (&putfh[..18], 10036, 18),

@@ -3,15 +3,17 @@ use Prim.Native.Nat.{ℕ, zero, suc, _≤_}
 use mathlib.Core.Path.{_≡_, refl, sym, ap, _∙_, subst}
 use mathlib.Core.Bool.{Bool, true, false, cond, not}
 use mathlib.Core.Option.{Option, none, some}
-use mathlib.Core.List.{List, [], _∷_}
+use mathlib.Core.List.{List, [], _∷_, _++_}
 use mathlib.Core.Logic.{_≢_, _⊎_, inl, inr}
 use native.Mathlib.Omega.{arith}
 use borrow.Author.Tests.{eq-eqb, ne-eqb}
 use lib.Dec.{ltb, eqb}
-use lib.ListN.{take}
+use lib.ListN.{length, take, replicate, length-take}
+use lib.Seq.{take-append-le}
 use Rattle.xdr.specs.Decode.{Parsed, got, fault, andThen, stop, Reader, ret, number}
 use Rattle.xdr.specs.Layout.{Layout, uint, hyper, upToLimit, boolean, bytes, opaqueData, anyLength, _then_}
-use Rattle.xdr.proofs.Onward.{Onward, ret-onward, then-onward, fixed-onward, number-onward, bounded-onward, opaque-onward, array-onward, both-onward, boolean-onward, mended}
+use Rattle.xdr.proofs.Onward.{Onward, fault≢got, length-zeros, stops-inside, longer, ret-onward, then-onward, mended}
+use Rattle.xdr.proofs.ReaderLaws.{fixed-onward, number-onward, bounded-onward, opaque-onward, array-onward, both-onward, boolean-onward}
 use Rattle.rules.specs.Lists.{first}
 use Rattle.rules.specs.Store.{Geometry, Store}
 use Rattle.rules.specs.Operation.{NOTSUPP, MINOR-VERS-MISMATCH, BADXDR, TOO-MANY-OPS, OP-ILLEGAL, SEQUENCE-POS, Op, GETATTR, GETFH, RESTOREFH, SAVEFH, PUTFH, READ, READ-PLUS, ALLOCATE, DEALLOCATE, SEEK, stateid, handleArgs, bitmapArgs, readArgs, writeArgs, regionArgs, cloneArgs, copyArgs, three, writeOf, cloneOf, copyOf, reading, readers, find, Item, op, bad, argsItem, SEQUENCE, isOperation, ILLEGAL, unserved, numberItem, itemAt, items, Header, headerLayout, header}
@@ -138,35 +140,27 @@ record FirstFault (s : List ℕ) (n at q : ℕ) : Type 0 where
   list : opsReader n s at ≡ fault (faultAt s q)
   item : opReader s q ≡ fault (faultAt s q)
 
-first-fault : (g : Geometry) → Good g → (v s : List ℕ) (n at : ℕ) (x : State) (a : ℕ) → Chain g x (reached (config g v) x (items s n at)) → a ≢ BADXDR
-    → lastStatus a (reached (config g v) x (items s n at)) ≡ BADXDR → FirstFault s n at (lastPlace at (reached (config g v) x (items s n at)))
+-- of n operations from place `at` on, of which these events were reached
+abbrev Finds : Geometry → List ℕ → ℕ → ℕ → ℕ → State → List Event → Type 0
+Finds g s n at a x zs = Chain g x zs → lastStatus a zs ≡ BADXDR → FirstFault s n at (lastPlace at zs)
+
+first-fault : (g : Geometry) → Good g → (v s : List ℕ) (n at : ℕ) (x : State) (a : ℕ) → a ≢ BADXDR → Finds g s n at a x (reached (config g v) x (items s n at))
 unfolding reached items opsReader faultAt
-first-fault g bd v s zero at x a ch na e = absurd (na e)
-first-fault g bd v s (suc n) at x a ch na e =
-    go (item-tells s at) refl (λ next y. first-fault g bd v s n next y) ch e
+first-fault g bd v s zero at x a other ch e = absurd (other e)
+first-fault g bd v s (suc n) at x a other ch e = go (item-tells s at) refl (λ next y b. first-fault g bd v s n next y b) ch e
   where
     c : Config
     c = config g v
 
-    behind : (o : Op) (next : ℕ) → opReader s at ≡ got (some o) next → {q : ℕ} → FirstFault s n next q → FirstFault s (suc n) at q
-    behind o next r f = record { list = rw r (f .list); item = f .item }
-
     pick : (o : Op) (next : ℕ) → opReader s at ≡ got (some o) next → (z : Event) → z .item ≡ op o next → z .status ≢ BADXDR
-        → ((y : State) (b : ℕ) → Chain g y (reached c y (items s n next)) → b ≢ BADXDR → lastStatus b (reached c y (items s n next)) ≡ BADXDR
-        → FirstFault s n next (lastPlace next (reached c y (items s n next))))
-        → (t : ℕ) → z .status ≡ t
-        → Chain g x (elim t [ zero ↦ z ∷ reached c (z .after) (items s n next) | suc e ↦ z ∷ [] ])
-        → lastStatus a (elim t [ zero ↦ z ∷ reached c (z .after) (items s n next) | suc e ↦ z ∷ [] ]) ≡ BADXDR
-        → FirstFault s (suc n) at (lastPlace at (elim t [ zero ↦ z ∷ reached c (z .after) (items s n next) | suc e ↦ z ∷ [] ]))
-    pick o next r z i k ih zero t (cons st b f rest) e = behind o next r (rw i (ih (z .after) (z .status) rest k e))
+        → ((y : State) (b : ℕ) → b ≢ BADXDR → Finds g s n next b y (reached c y (items s n next)))
+        → (t : ℕ) → z .status ≡ t → Finds g s (suc n) at a x (elim t [ zero ↦ z ∷ reached c (z .after) (items s n next) | suc e ↦ z ∷ [] ])
+    pick o next r z i k ih zero t (cons st b f rest) e = let found = ih (z .after) (z .status) k rest e in rw i (record { list = rw r (found .list); item = found .item })
     pick o next r z i k ih (suc d) t ch e = absurd (k e)
 
     go : {i : Item} {t : Parsed (Option Op)} → Tells i t → opReader s at ≡ t
-        → ((next : ℕ) (y : State) (b : ℕ) → Chain g y (reached c y (items s n next)) → b ≢ BADXDR → lastStatus b (reached c y (items s n next)) ≡ BADXDR
-        → FirstFault s n next (lastPlace next (reached c y (items s n next))))
-        → Chain g x (reached c x (elim i [ op o next ↦ op o next ∷ items s n next | bad k e ↦ bad k e ∷ [] ]))
-        → lastStatus a (reached c x (elim i [ op o next ↦ op o next ∷ items s n next | bad k e ↦ bad k e ∷ [] ])) ≡ BADXDR
-        → FirstFault s (suc n) at (lastPlace at (reached c x (elim i [ op o next ↦ op o next ∷ items s n next | bad k e ↦ bad k e ∷ [] ])))
+        → ((next : ℕ) (y : State) (b : ℕ) → b ≢ BADXDR → Finds g s n next b y (reached c y (items s n next)))
+        → Finds g s (suc n) at a x (reached c x (elim i [ op o next ↦ op o next ∷ items s n next | bad k e ↦ bad k e ∷ [] ]))
     go (reads o next) r ih ch e =
         let z = perform c x o next in
         let p = performed c x o next in
@@ -193,10 +187,9 @@ module _ {c : Call} {st : Store} {h : Header} {at : ℕ} (a : Accepted c st h at
       run : ℕ → List Event
       run n = elim n [ zero ↦ reached (c .config) (fresh st) (items (c .request) (h .ops) at) | suc e ↦ [] ]
 
-      go : (n : ℕ) → Chain (c .config .geometry) (fresh st) (run n) → lastStatus (headerStatus h) (run n) ≡ BADXDR → FirstFault (c .request) (h .ops) at (lastPlace at (run n))
-      go zero ch e =
-          first-fault (c .config .geometry) (passed (a .passes) .bounds) (c .config .verifier) (c .request) (h .ops) at (fresh st) (headerStatus h) ch (header-decodes h) e
-      go (suc n) ch e = absurd (header-decodes h e)
+      go : (n : ℕ) → Finds (c .config .geometry) (c .request) (h .ops) at (headerStatus h) (fresh st) (run n)
+      go zero = first-fault (c .config .geometry) (passed (a .passes) .bounds) (c .config .verifier) (c .request) (h .ops) at (fresh st) (headerStatus h) (header-decodes h)
+      go (suc n) = λ ch e. absurd (header-decodes h e)
 
   served-place : answer c st .place ≡ cond (eqb (status a) BADXDR) (faultAt (c .request) (lastPlace at (zs a))) NOWHERE
   unfolding answer placeOf lastFault
@@ -223,6 +216,14 @@ place-right s start p h e = let m = mended requestReader request-onward s 0 p (o
     go : ((t : List ℕ) × (take p t ≡ take p s) × (a : Unit {0}) × (next : ℕ) × (requestReader t 0 ≡ got a next)) ⊎ OutOfRange s p → Mends s p ⊎ OutOfRange s p
     go (inl t) = inl (t .0, t .1, t .3, t .4)
     go (inr q) = inr q
+
+-- the two cases exclude each other: bytes that begin a number out of range are those of no request without a fault
+pub not-both : (s : List ℕ) (p : ℕ) → p ≤ length s → OutOfRange s p → Mends s p → ⊥
+not-both s p h (q, low, high, wrong) (t, same, next, right) =
+    let long : p ≤ length t = omega (arith, length-take p t, length-take p s, ap length same) in
+    let inside : next ≤ length t = stops-inside request-onward t 0 (got tt next) (omega arith) right in
+    let more : List ℕ = t ++ replicate 4 0 in
+    fault≢got (sym (wrong more (take-append-le p t (replicate 4 0) long ∙ same) (omega (arith, length-zeros t 4))) ∙ longer request-onward t 0 (replicate 4 0) tt next inside right)
 
 -- of the header
 header-right : (c : Call) (st : Store) (p : ℕ) → refusal c st ≡ 0 → header (c .request) 0 ≡ fault p → PlaceRight (c .request) 0 (answer c st .place)

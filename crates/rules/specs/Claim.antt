@@ -289,7 +289,7 @@ pub record NospcExactly (g : Geometry) (z : Event) : Type 0 where
 -- ---- the claim
 
 pub record Promise (E : Entry) (g : Geometry) (t : E .Tables) (cs : List (E .Given)) (os : List (Outcome (E .Tables))) : Type 0 where
-  -- after every call number, counts, reply buffer and every byte of the tables are the machine's
+  -- after every call number, counts, place, reply buffer and every byte of the tables are the machine's
   pub equal : os ≡ machine E t cs
   -- after every call the store is sound
   pub sound-after : Each E (λ c t o. E .good g (o .store) ≡ true) t cs os

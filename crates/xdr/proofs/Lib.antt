@@ -3,6 +3,7 @@ pub mod EncodeLaws
 pub mod DecodeLaws
 pub mod RoundTrip
 pub mod Onward
+pub mod ReaderLaws
 pub mod LayoutLaws
 pub mod ArrayLaws
 pub mod Bounds

@@ -8,11 +8,11 @@ use mathlib.Core.Logic.{_≢_, _⊎_, inl, inr}
 use native.Mathlib.Omega.{arith}
 use borrow.Author.Tests.{eq-eqb, ne-eqb}
 use lib.Dec.{ltb, eqb}
-use lib.ListN.{length, take, replicate, length-take}
+use lib.ListN.{length, replicate, length-take}
 use lib.Seq.{take-append-le}
 use Rattle.xdr.specs.Decode.{Parsed, got, fault, andThen, stop, Reader, ret, number}
 use Rattle.xdr.specs.Layout.{Layout, uint, hyper, upToLimit, boolean, bytes, opaqueData, anyLength, _then_}
-use Rattle.xdr.proofs.Onward.{Onward, fault≢got, length-zeros, stops-inside, longer, ret-onward, then-onward, mended}
+use Rattle.xdr.proofs.Onward.{Onward, fault≢got, length-zeros, stops-inside, longer, ret-onward, then-onward, Completed, mended}
 use Rattle.xdr.proofs.ReaderLaws.{fixed-onward, number-onward, bounded-onward, opaque-onward, array-onward, both-onward, boolean-onward}
 use Rattle.rules.specs.Lists.{first}
 use Rattle.rules.specs.Store.{Geometry, Store}
@@ -211,15 +211,20 @@ header-place c st p e d = rw (e, placeOf) (rw d)
 
 -- what is known of the first fault of a request, in a part that starts at or before it
 place-right : (s : List ℕ) (start p : ℕ) → start ≤ p → requestReader s 0 ≡ fault p → PlaceRight s start p
-place-right s start p h e = let m = mended requestReader request-onward s 0 p (omega arith) e in record { first = e; from = h; to = m .1; before = go (m .2) }
+place-right s start p h e = record {
+  first = e;
+  from = h;
+  to = stops-inside request-onward s 0 (fault p) (omega arith) e;
+  before = go (mended requestReader s 0 p request-onward (omega arith) e);
+}
   where
-    go : ((t : List ℕ) × (take p t ≡ take p s) × (a : Unit {0}) × (next : ℕ) × (requestReader t 0 ≡ got a next)) ⊎ OutOfRange s p → Mends s p ⊎ OutOfRange s p
+    go : Completed requestReader s 0 p ⊎ OutOfRange s p → Mends s p ⊎ OutOfRange s p
     go (inl t) = inl (t .0, t .1, t .3, t .4)
     go (inr q) = inr q
 
 -- the two cases exclude each other: bytes that begin a number out of range are those of no request without a fault
-pub not-both : (s : List ℕ) (p : ℕ) → p ≤ length s → OutOfRange s p → Mends s p → ⊥
-not-both s p h (q, low, high, wrong) (t, same, next, right) =
+pub not-both : (s : List ℕ) (p : ℕ) → OutOfRange s p → Mends s p → ⊥
+not-both s p (last, q, low, high, wrong) (t, same, next, right) =
     let long : p ≤ length t = omega (arith, length-take p t, length-take p s, ap length same) in
     let inside : next ≤ length t = stops-inside request-onward t 0 (got tt next) (omega arith) right in
     let more : List ℕ = t ++ replicate 4 0 in

@@ -33,7 +33,7 @@ Mends s p = (t : List ℕ) × SameBefore p s t × (next : ℕ) × (requestReader
 
 -- the request ends at p, in a number that starts at q and is out of range whatever follows: with the whole number the fault is at q
 abbrev pub OutOfRange : List ℕ → ℕ → Type 0
-OutOfRange s p = (q : ℕ) × (q < p) × (p < q + 4) × ((t : List ℕ) → SameBefore p s t → q + 4 ≤ length t → requestReader t 0 ≡ fault q)
+OutOfRange s p = (p ≡ length s) × (q : ℕ) × (q < p) × (p < q + 4) × ((t : List ℕ) → SameBefore p s t → q + 4 ≤ length t → requestReader t 0 ≡ fault q)
 
 pub record PlaceRight (s : List ℕ) (start p : ℕ) : Type 0 where
   -- the first fault in reading order, inside that part

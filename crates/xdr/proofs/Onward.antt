@@ -8,16 +8,21 @@ use mathlib.Core.List.{List, _++_, append-assoc}
 use native.Mathlib.Nat.{add-sub-of-le, le-refl, le-trans}
 use native.Mathlib.Omega.{arith}
 use lib.ListN.{length, take, drop, replicate, length-append, length-replicate, replicate-append-replicate}
-use lib.Seq.{take-take, take-add, take-append-le, take-append-seam, take-at, drop-at, drop-drop, length-take-le}
-use lib.Dec.{leb}
-use borrow.Author.Tests.{leb-true, leb-false}
-use Rattle.xdr.specs.Decode.{Parsed, got, fault, stop, Reader, ret, andThen, _>>=_, value, number}
-use Rattle.xdr.specs.Layout.{_then_}
+use lib.Seq.{take-all, take-take, take-add, take-append-le, take-append-seam, take-at, drop-at, drop-drop, length-take-le}
+use lib.Dec.{leb, ltb}
+use borrow.Author.Tests.{leb-true, leb-false, ltb-true, ltb-false}
+use Rattle.xdr.specs.Decode.{Parsed, got, fault, stop, Reader, ret, andThen, _>>=_}
+
+-- enough zeros behind the bytes s complete what is read from `at` on
+pub record Mended {A : Type 0} (r : Reader A) (s : List ℕ) (at : ℕ) : Type 0 where
+  pub zeros : ℕ
+  pub value : A
+  pub next : ℕ
+  pub reads : r (s ++ replicate zeros 0) at ≡ got value next
 
 -- how bytes s go on, in which reading from `at` on comes to their end
 pub data Ends {A : Type 0} (r : Reader A) (s : List ℕ) (at : ℕ) : Type 0 where
-  -- n zeros behind them are enough
-  zeros : (n : ℕ) (a : A) (next : ℕ) → r (s ++ replicate n 0) at ≡ got a next → Ends r s at
+  mends : Mended r s at → Ends r s at
   -- the last of them, from place q on, begin a number of four bytes that is out of range whatever follows
   over : (q : ℕ) → q < length s → length s < q + 4 → ((t : List ℕ) → take (length s) t ≡ s → q + 4 ≤ length t → r t at ≡ fault q) → Ends r s at
 
@@ -30,6 +35,8 @@ pub record Onward {A : Type 0} (r : Reader A) : Type 0 where
   pub before : (s t : List ℕ) (at : ℕ) (a : A) (n : ℕ) → r s at ≡ got a n → n ≤ length t → take n s ≡ take n t → r t at ≡ got a n
   -- the bytes before a fault, read alone, end there
   pub cut : (s : List ℕ) (at p : ℕ) → at ≤ length s → r s at ≡ fault p → r (take p s) at ≡ fault p
+  -- a fault at a byte that is there, and one at the first missing byte
+  pub there : (s : List ℕ) (at p : ℕ) → at ≤ length s → r s at ≡ fault p → p < length s → Mended r (take p s) at
   pub ends : (s : List ℕ) (at : ℕ) → at ≤ length s → r s at ≡ fault (length s) → Ends r s at
 
 pub fault≢got : {A : Type 0} {a : A} {n p : ℕ} → _≡_ {A = Parsed A} (fault p) (got a n) → ⊥
@@ -100,6 +107,7 @@ ret-onward a = record {
   inside = λ s at l. l;
   before = λ s t at b n e w d. e;
   cut = λ s at p l e. absurd (fault≢got (sym e));
+  there = λ s at p l e w. absurd (fault≢got (sym e));
   ends = λ s at l e. absurd (fault≢got (sym e));
 }
 
@@ -149,46 +157,73 @@ module _ {A B : Type 0} (r : Reader A) (f : A → Reader B) (h : Onward r) (k : 
           joined (take p s) at (got a m) (h .before s (take p s) at a m c (rw (length-take-le p s w) g) (sym (take-take m p s g)))
           ∙ k a .cut s m p i e
 
-  -- bytes in which the second reader comes to the end, behind a value of the first
+  -- bytes that the second reader completes, behind a value of the first
+  second-mended : (s : List ℕ) (at : ℕ) (a : A) (m : ℕ) → m ≤ length s → r s at ≡ got a m → Mended (f a) s m → Mended (_>>=_ r f) s at
+  second-mended s at a m l c d = record {
+    zeros = d .zeros;
+    value = d .value;
+    next = d .next;
+    reads = joined (s ++ replicate (d .zeros) 0) at (got a m) (longer h s at (replicate (d .zeros) 0) a m l c) ∙ d .reads;
+  }
+
   second-ends : (s : List ℕ) (at : ℕ) (a : A) (m : ℕ) → m ≤ length s → r s at ≡ got a m → Ends (f a) s m → Ends (_>>=_ r f) s at
-  second-ends s at a m l c (zeros n b next e) = zeros n b next (joined (s ++ replicate n 0) at (got a m) (longer h s at (replicate n 0) a m l c) ∙ e)
+  second-ends s at a m l c (mends d) = mends (second-mended s at a m l c d)
   second-ends s at a m l c (over q u v e) = over q u v (λ t d w.
       joined t at (got a m) (h .before s t at a m c (omega arith) (sym (ap (take m) d) ∙ take-take m (length s) t l)) ∙ e t d w)
+
+  -- the first reader's value ends with the zeros behind s
+  full : (s : List ℕ) (at j m : ℕ) (a : A) → length s + j ≡ m → r (s ++ replicate j 0) at ≡ got a m → Mended (_>>=_ r f) s at
+  full s at j m a q c = by-second (f a s′ m) refl
+    where
+      s′ : List ℕ
+      s′ = s ++ replicate j 0
+
+      long : length s′ ≡ m
+      long = length-zeros s j ∙ q
+
+      on : Ends (f a) s′ m → Mended (_>>=_ r f) s at
+      on (mends d) =
+          let more = second-mended s′ at a m (omega (arith, long)) c d in
+          record { zeros = j + more .zeros; value = more .value; next = more .next; reads = rw (← more-zeros s j (more .zeros)) (more .reads) }
+      on (over q u v d) =
+          let t : List ℕ = s′ ++ replicate 4 0 in
+          let g : m ≤ q = stops-forth (k a) t m (fault q) (d t (take-append-seam s′ (replicate 4 0)) (omega (arith, length-zeros s′ 4))) in
+          absurd (omega (arith, long))
+
+      by-second : (y : Parsed B) → f a s′ m ≡ y → Mended (_>>=_ r f) s at
+      by-second (got b next) d = record { zeros = j; value = b; next = next; reads = joined s′ at (got a m) c ∙ d }
+      by-second (fault p) d =
+          let g : m ≤ p = stops-forth (k a) s′ m (fault p) d in
+          let w : p ≤ length s′ = stops-inside (k a) s′ m (fault p) (omega (arith, long)) d in
+          on (k a .ends s′ m (omega (arith, long)) (d ∙ ap fault (omega (arith, long))))
+
+  first-mended : (s : List ℕ) (at : ℕ) → at ≤ length s → r s at ≡ fault (length s) → Mended r s at → Mended (_>>=_ r f) s at
+  first-mended s at l c d =
+      let g : length s < d .next = reaches h s at (d .zeros) (d .value) (d .next) (d .reads) c in
+      full s at (d .next - length s) (d .next) (d .value) (omega arith) (enough h s at (d .zeros) (d .value) (d .next) (d .reads) l g)
+
+  then-there : (s : List ℕ) (at p : ℕ) → at ≤ length s → _>>=_ r f s at ≡ fault p → p < length s → Mended (_>>=_ r f) (take p s) at
+  then-there s at p l e w = go (r s at) refl e
+    where
+      long : length (take p s) ≡ p
+      long = length-take-le p s (omega arith)
+
+      go : (x : Parsed A) → r s at ≡ x → andThen x (λ a m. f a s m) ≡ fault p → Mended (_>>=_ r f) (take p s) at
+      go (fault q) c e =
+          let d : r s at ≡ fault p = c ∙ ap fault (ap stop e) in
+          let low : at ≤ p = stops-forth h s at (fault p) d in
+          first-mended (take p s) at (omega (arith, long)) (h .cut s at p l d ∙ ap fault (sym long)) (h .there s at p l d w)
+      go (got a m) c e =
+          let i : m ≤ length s = stops-inside h s at (got a m) l c in
+          let g : m ≤ p = stops-forth (k a) s m (fault p) e in
+          second-mended (take p s) at a m (omega (arith, long)) (h .before s (take p s) at a m c (omega (arith, long)) (sym (take-take m p s g))) (k a .there s m p i e w)
 
   then-ends : (s : List ℕ) (at : ℕ) → at ≤ length s → _>>=_ r f s at ≡ fault (length s) → Ends (_>>=_ r f) s at
   then-ends s at l e = go (r s at) refl e
     where
-      -- the first reader's value ends with the zeros behind s
-      full : (j m : ℕ) (a : A) → length s + j ≡ m → r (s ++ replicate j 0) at ≡ got a m → Ends (_>>=_ r f) s at
-      full j m a q c = by-second (f a s′ m) refl
-        where
-          s′ : List ℕ
-          s′ = s ++ replicate j 0
-
-          long : length s′ ≡ m
-          long = length-zeros s j ∙ q
-
-          on : Ends (f a) s′ m → Ends (_>>=_ r f) s at
-          on (zeros n b next d) =
-              zeros (j + n) b next
-              (rw (← more-zeros s j n) (joined (s′ ++ replicate n 0) at (got a m) (longer h s′ at (replicate n 0) a m (omega (arith, long)) c) ∙ d))
-          on (over q u v d) =
-              let t : List ℕ = s′ ++ replicate 4 0 in
-              let g : m ≤ q = stops-forth (k a) t m (fault q) (d t (take-append-seam s′ (replicate 4 0)) (omega (arith, length-zeros s′ 4))) in
-              absurd (omega (arith, long))
-
-          by-second : (y : Parsed B) → f a s′ m ≡ y → Ends (_>>=_ r f) s at
-          by-second (got b next) d = zeros j b next (joined s′ at (got a m) c ∙ d)
-          by-second (fault p) d =
-              let g : m ≤ p = stops-forth (k a) s′ m (fault p) d in
-              let w : p ≤ length s′ = stops-inside (k a) s′ m (fault p) (omega (arith, long)) d in
-              on (k a .ends s′ m (omega (arith, long)) (d ∙ ap fault (omega (arith, long))))
-
       first-ends : r s at ≡ fault (length s) → Ends r s at → Ends (_>>=_ r f) s at
       first-ends c (over q u v d) = over q u v (λ t g w. joined t at (fault q) (d t g w))
-      first-ends c (zeros n a m d) =
-          let g : length s < m = reaches h s at n a m d c in
-          full (m - length s) m a (omega arith) (enough h s at n a m d l g)
+      first-ends c (mends d) = mends (first-mended s at l c d)
 
       go : (x : Parsed A) → r s at ≡ x → andThen x (λ a m. f a s m) ≡ fault (length s) → Ends (_>>=_ r f) s at
       go (fault p) c e = let d : r s at ≡ fault (length s) = c ∙ ap fault (ap stop e) in first-ends d (h .ends s at l d)
@@ -203,6 +238,7 @@ then-onward r f h k = record {
   inside = then-inside r f h k;
   before = then-before r f h k;
   cut = then-cut r f h k;
+  there = then-there r f h k;
   ends = then-ends r f h k;
 }
 
@@ -212,26 +248,28 @@ like {A} h e = subst (Onward {A = A}) (sym {A = Reader A} (λ i s at. e s at i))
 
 -- ---- what a fault says
 
--- the bytes before it can be completed, or end in a number that is out of range whatever follows
-pub mended : {A : Type 0} (r : Reader A) → Onward r → (s : List ℕ) (at p : ℕ) → at ≤ length s → r s at ≡ fault p
-    → (at ≤ p) × (p ≤ length s) × (((t : List ℕ) × (take p t ≡ take p s) × (a : A) × (next : ℕ) × (r t at ≡ got a next))
-    ⊎ ((q : ℕ) × (q < p) × (p < q + 4) × ((t : List ℕ) → take p t ≡ take p s → q + 4 ≤ length t → r t at ≡ fault q)))
-mended {A} r h s at p l e = (forth, inside, go (h .ends first at (rw long forth) (h .cut s at p l e ∙ ap fault (sym long))))
-  where
-    forth : at ≤ p
-    forth = stops-forth h s at (fault p) e
+module _ {A : Type 0} (r : Reader A) (s : List ℕ) (at p : ℕ) where
+  -- bytes with the same first p are read
+  abbrev pub Completed : Type 0
+  Completed = (t : List ℕ) × (take p t ≡ take p s) × (a : A) × (next : ℕ) × (r t at ≡ got a next)
 
-    inside : p ≤ length s
-    inside = stops-inside h s at (fault p) l e
+  -- the bytes end at p, in a number that is out of range whatever follows
+  abbrev pub Overrun : Type 0
+  Overrun = (p ≡ length s) × (q : ℕ) × (q < p) × (p < q + 4) × ((t : List ℕ) → take p t ≡ take p s → q + 4 ≤ length t → r t at ≡ fault q)
 
-    first : List ℕ
-    first = take p s
+  pub mended : Onward r → at ≤ length s → r s at ≡ fault p → Completed ⊎ Overrun
+  mended h l e = by-place (ltb p (length s)) refl
+    where
+      inside : p ≤ length s
+      inside = stops-inside h s at (fault p) l e
 
-    long : length first ≡ p
-    long = length-take-le p s inside
+      completed : Mended r (take p s) at → Completed
+      completed d = (take p s ++ replicate (d .zeros) 0, take-at (take p s) (replicate (d .zeros) 0) p (length-take-le p s inside), d .value, d .next, d .reads)
 
-    go : Ends r first at
-        → ((t : List ℕ) × (take p t ≡ first) × (a : A) × (next : ℕ) × (r t at ≡ got a next))
-        ⊎ ((q : ℕ) × (q < p) × (p < q + 4) × ((t : List ℕ) → take p t ≡ first → q + 4 ≤ length t → r t at ≡ fault q))
-    go (zeros n a next d) = inl (first ++ replicate n 0, take-at first (replicate n 0) p long, a, next, d)
-    go (over q u v d) = inr (q, rw long at u, rw long at v, λ t g w. d t (rw long g) w)
+      by-end : p ≡ length s → Ends r s at → Completed ⊎ Overrun
+      by-end c (mends d) = inl (completed (rw (take-all p s (omega arith)) d))
+      by-end c (over q u v d) = inr (c, q, omega arith, omega arith, λ t g w. d t (rw (← c) (g ∙ take-all p s (omega arith))) w)
+
+      by-place : (b : Bool) → ltb p (length s) ≡ b → Completed ⊎ Overrun
+      by-place true b = inl (completed (h .there s at p l e (ltb-true p (length s) b)))
+      by-place false b = let c : p ≡ length s = omega (arith, inside, ltb-false p (length s) b) in by-end c (h .ends s at l (e ∙ ap fault c))

@@ -5,7 +5,7 @@ use mathlib.Core.Bool.{Bool, true, false, cond, true≢false}
 use mathlib.Core.List.{List, [], _++_}
 use native.Mathlib.Nat.{le-refl, le-max-left, max-eq-left, max-eq-right, zero-mul}
 use native.Mathlib.Omega.{arith}
-use lib.ListN.{length, getD, take, drop, replicate, length-drop, drop-of-length-le}
+use lib.ListN.{length, getD, take, drop, replicate, length-drop, length-replicate, drop-of-length-le}
 use lib.Seq.{take-all, take-nil, take-take, take-add, take-append-seam, drop-append-seam, drop-at, drop-drop, length-take-le, getD-take}
 use lib.Dec.{leb, ltb, eqb}
 use borrow.Author.Tests.{le-leb, lt-leb, leb-true, leb-false, ltb-true, ltb-false}
@@ -15,7 +15,7 @@ use Rattle.xdr.specs.Decode.{Parsed, got, fault, stop, Reader, ret, andT
 use Rattle.xdr.specs.Layout.{Layout, boolean, _then_}
 use Rattle.xdr.proofs.EncodeLaws.{value-append}
 use Rattle.xdr.proofs.DecodeLaws.{fixed-is, byte-drop, opaque-reads, array-reads}
-use Rattle.xdr.proofs.Onward.{Ends, zeros, over, Onward, fault≢got, drop-take, same-part, length-zeros, ret-onward, then-onward, like}
+use Rattle.xdr.proofs.Onward.{Mended, Ends, mends, over, Onward, fault≢got, drop-take, same-part, length-zeros, ret-onward, then-onward, like}
 
 -- ---- bytes that pass a test
 
@@ -104,9 +104,37 @@ module _ {A : Type 0} (k : ℕ) (ok : List ℕ → Bool) (v : ℕ → List ℕ �
               let u : at < at + k = leb-false _ _ t in
               tested-missing (take p s) at (omega (arith, long, q)) ∙ ap fault (max-eq-left (omega (arith, long, q)) ∙ sym q)
 
-  -- for a test that the empty list passes, and bytes that go on where they are cut
-  tested-onward : ok [] ≡ true → ((s : List ℕ) (at : ℕ) → at ≤ length s → length s < at + k → Ends (tested k ok v) s at) → Onward (tested k ok v)
-  tested-onward none on = record { same = tested-same; forth = tested-forth; inside = tested-inside; before = tested-before; cut = tested-cut; ends = ends′ }
+  tested-zeros : ok (replicate k 0) ≡ true → (s : List ℕ) (at p : ℕ) → at ≤ length s → tested k ok v s at ≡ fault p → p < length s → Mended (tested k ok v) (take p s) at
+  tested-zeros pass s at p l g w = go (came s at)
+    where
+      go : Came s at → Mended (tested k ok v) (take p s) at
+      go (passed b h e) = absurd (fault≢got (sym g ∙ e))
+      go (missing h e) = absurd (omega (arith, ap stop (sym g ∙ e), max-eq-right l))
+      go (failed h d e) = record { zeros = k; value = v at (replicate k 0); next = at + k; reads = tested-there filled at (omega (arith, long, length-zeros (take p s) k)) ∙ rw (bytes-are, pass) }
+        where
+          q : p ≡ at
+          q = ap stop (sym g ∙ e)
+
+          long : length (take p s) ≡ at
+          long = length-take-le p s (omega arith) ∙ q
+
+          filled : List ℕ
+          filled = take p s ++ replicate k 0
+
+          bytes-are : take k (drop at filled) ≡ replicate k 0
+          bytes-are = ap (take k) (drop-at (take p s) (replicate k 0) at long) ∙ take-all k (replicate k 0) (omega (arith, length-replicate {A = ℕ} k 0))
+
+  -- for a test that the empty list and zeros pass, and bytes that go on where they are cut
+  tested-onward : ok [] ≡ true → ok (replicate k 0) ≡ true → ((s : List ℕ) (at : ℕ) → at ≤ length s → length s < at + k → Ends (tested k ok v) s at) → Onward (tested k ok v)
+  tested-onward none pass on = record {
+    same = tested-same;
+    forth = tested-forth;
+    inside = tested-inside;
+    before = tested-before;
+    cut = tested-cut;
+    there = tested-zeros pass;
+    ends = ends′;
+  }
     where
       ends′ : (s : List ℕ) (at : ℕ) → at ≤ length s → tested k ok v s at ≡ fault (length s) → Ends (tested k ok v) s at
       ends′ s at l g = go (came s at)
@@ -122,8 +150,8 @@ module _ {A : Type 0} (k : ℕ) (ok : List ℕ → Bool) (v : ℕ → List ℕ �
 -- n bytes, whatever they are
 bytes-onward : {A : Type 0} (n : ℕ) (v : ℕ → List ℕ → A) → Onward (tested n (λ w. true) v)
 bytes-onward n v =
-    tested-onward n (λ w. true) v refl
-    (λ s at l h. zeros n _ _ (tested-there n (λ w. true) v (s ++ replicate n 0) at (omega (arith, length-zeros s n))))
+    tested-onward n (λ w. true) v refl refl
+    (λ s at l h. mends (record { zeros = n; value = _; next = _; reads = tested-there n (λ w. true) v (s ++ replicate n 0) at (omega (arith, length-zeros s n)) }))
 
 pub fixed-onward : (n : ℕ) → Onward (fixed n)
 fixed-onward n = like (bytes-onward n (λ at w. w)) (λ s at. go (fixed n s at))
@@ -169,7 +197,7 @@ begun s t at k j q h e =
 
 pub bounded-onward : (limit : ℕ) → Onward (upTo limit)
 unfolding upTo number
-bounded-onward limit = like (tested-onward 4 ok (λ at w. value w) (le-leb 0 limit (omega arith)) ends′) (λ s at. go at (fixed 4 s at))
+bounded-onward limit = like (tested-onward 4 ok (λ at w. value w) (le-leb 0 limit (omega arith)) (le-leb 0 limit (omega arith)) ends′) (λ s at. go at (fixed 4 s at))
   where
     ok : List ℕ → Bool
     ok w = leb (value w) limit
@@ -203,7 +231,13 @@ bounded-onward limit = like (tested-onward 4 ok (λ at w. value w) (le-leb 0 lim
             ∙ rw (drop-append-seam s (replicate 4 0), zeros-value j 4) (omega arith)
 
         choose : (t : Bool) → ok (take 4 (drop at filled)) ≡ t → Ends word s at
-        choose true e = zeros 4 (value (take 4 (drop at filled))) (at + 4) (tested-there 4 ok (λ at w. value w) filled at (omega (arith, length-zeros s 4)) ∙ rw e)
+        choose true e =
+            mends (record {
+              zeros = 4;
+              value = value (take 4 (drop at filled));
+              next = at + 4;
+              reads = tested-there 4 ok (λ at w. value w) filled at (omega (arith, length-zeros s 4)) ∙ rw e;
+            })
         choose false e = over at (some (ltb at (length s)) refl) h
             (λ t d w. tested-there 4 ok (λ at w. value w) t at w ∙ rw (lt-leb (value (take 4 (drop at t))) limit (omega (arith, large, least, number-is t w d))))
           where
@@ -230,7 +264,7 @@ pad-first n a s at = go (ltb at (length s)) (eqb (getD s at 0) 0)
 
 byte-onward : {A : Type 0} (a : A) → Onward (padded 1 a)
 unfolding padded
-byte-onward {A} a = like (tested-onward 1 ok (λ at w. a) refl ends′) reads
+byte-onward {A} a = like (tested-onward 1 ok (λ at w. a) refl refl ends′) reads
   where
     ok : List ℕ → Bool
     ok w = eqb (getD w 0 0) 0
@@ -254,7 +288,7 @@ byte-onward {A} a = like (tested-onward 1 ok (λ at w. a) refl ends′) reads
     ends′ s at l h =
         let filled : List ℕ = s ++ replicate 1 0 in
         let q : length s ≡ at = omega arith in
-        zeros 1 a (at + 1) (tested-there 1 ok (λ at w. a) filled at (omega (arith, length-zeros s 1)) ∙ rw (drop-at s (replicate 1 0) at q))
+        mends (record { zeros = 1; value = a; next = at + 1; reads = tested-there 1 ok (λ at w. a) filled at (omega (arith, length-zeros s 1)) ∙ rw (drop-at s (replicate 1 0) at q) })
 
 pub padded-onward : {A : Type 0} (n : ℕ) (a : A) → Onward (padded n a)
 unfolding padded

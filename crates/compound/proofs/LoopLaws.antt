@@ -1,16 +1,19 @@
 -- The run of a compound: one operation after the other, and what they come to.
 use Prim.Native.Nat.{ℕ, zero, suc, _+_, _-_, _*_, _≤_, _<_}
 use mathlib.Core.Path.{_≡_, refl, sym, ap, _∙_, subst}
-use mathlib.Core.Bool.{true}
+use mathlib.Core.Bool.{true, cond}
 use mathlib.Core.Option.{Option, none, some}
 use mathlib.Core.List.{List, [], _∷_, _++_, append-assoc, append-nil}
 use mathlib.Core.Logic.{_≢_}
 use native.Mathlib.Omega.{arith}
 use lib.ListN.{length, length-append}
+use lib.Dec.{eqb}
+use borrow.Author.Tests.{ne-eqb}
 use Rattle.xdr.specs.Encode.{concatMap}
 use Rattle.xdr.proofs.BytesLaws.{written-then}
 use Rattle.rules.specs.Store.{Geometry, goodGeometry, Store, sound}
-use Rattle.rules.specs.Operation.{Op, Item, op, bad, itemAt, items}
+use Rattle.rules.specs.Fault.{NOWHERE, faultAt}
+use Rattle.rules.specs.Operation.{BADXDR, Op, Item, op, bad, itemAt, items}
 use Rattle.rules.specs.Run.{State, Event, failed, perform, reached, config}
 use Rattle.rules.specs.Calls.{resultBytes, placeAfter, lastPlace, lastOf, fresh}
 use Rattle.tables.specs.Tables.{TableTrue}
@@ -18,7 +21,8 @@ use Rattle.rules.proofs.GeometryLaws.{Good, good, block-pos}
 use Rattle.rules.proofs.SoundLaws.{sound-facts, lengths-test, sound-test}
 use Rattle.rules.proofs.OperationLaws.{Ready, performed}
 use Rattle.rules.proofs.ItemLaws as Items
-use Rattle.rules.proofs.ChainLaws.{Step, decoded, undecoded, step-after, step-known}
+use Rattle.rules.proofs.ChainLaws.{Step, decoded, undecoded, step-after, step-known, performed-decodes}
+use Rattle.rules.proofs.PlaceProof.{no-fault, bad-fault}
 use Rattle.compound.specs.declared.run.Progress.{Progress}
 use Rattle.compound.specs.Runner.{stateOf, Known, Runs, eventAt, Turned, started, RunsAll, RanAll}
 use Rattle.compound.proofs.RunLaws.{perform-item}
@@ -48,6 +52,7 @@ ready-known {g} {x} e r = record {
 record Stands (g : Geometry) (v s : List ℕ) (x : State) (at : ℕ) (z : Event) : Type 0 where
   known : Known g (z .after)
   short : length (resultBytes z) ≤ 2179
+  told : faultAt s at ≡ cond (eqb (z .status) BADXDR) (faultAt s (placeAfter at (z .item))) NOWHERE
   on : z .status ≡ 0 → (n : ℕ) → reached (config g v) x (items s (suc n) at) ≡ z ∷ reached (config g v) (z .after) (items s n (placeAfter at (z .item)))
   off : z .status ≢ 0 → (n : ℕ) → reached (config g v) x (items s (suc n) at) ≡ z ∷ []
 
@@ -95,6 +100,7 @@ module _ (g : Geometry) (v s : List ℕ) (hv : length v ≡ 8) (x : State) (k : 
       go (op o next) e = record {
         known = ready-known (k .shaped .geometry) (step-after g bounds (done o next));
         short = step-known g bounds (done o next) .size;
+        told = no-fault s at e ∙ rw (ne-eqb (perform (config g v) x o next .status) BADXDR (performed-decodes g bounds r (performed (config g v) x o next)));
         on = λ h n. reached-at (op o next) e n ∙ reached-from o next (items s n next)
             ∙ ap (from (perform (config g v) x o next) (items s n next)) h
             ∙ ap (λ i. perform (config g v) x o next ∷ reached (config g v) (perform (config g v) x o next .after) (items s n (placeAfter at i))) (sym (perform-item (config g v) x o next));
@@ -104,6 +110,7 @@ module _ (g : Geometry) (v s : List ℕ) (hv : length v ≡ 8) (x : State) (k : 
       go (bad j e) q = record {
         known = k;
         short = step-known g bounds (undecoded x j e r (subst Items.Known q (Items.item-known s at))) .size;
+        told = bad-fault s at q;
         on = λ h n. absurd (omega (arith, h, subst Items.Known q (Items.item-known s at) .status-some));
         off = λ h n. reached-at (bad j e) q n ∙ bad-stops j e [];
       }
@@ -122,27 +129,29 @@ results-end : (zs : List Event) (z : Event) → concatMap resultBytes (zs ++ (z 
 results-end zs z = concatMap-append resultBytes zs (z ∷ []) ∙ ap (λ t. concatMap resultBytes zs ++ t) (append-nil (resultBytes z))
 
 -- what came of them, while the run goes on or at its end
-pub record Sofar (st : Store) (at out : ℕ) (before : List ℕ) (zs : List Event) (r : Progress) (after : Store) (reply : List ℕ) : Type 0 where
-  pub ran : RanAll zs st at out r after before reply
+pub record Sofar (s : List ℕ) (st : Store) (at out : ℕ) (before : List ℕ) (zs : List Event) (r : Progress) (after : Store) (reply : List ℕ) : Type 0 where
+  pub ran : RanAll s zs st at out r after before reply
   pub place : r .at .at ≤ out + 2179 * r .count
 
-start-sofar : (st : Store) (at out : ℕ) (reply : List ℕ) → Sofar st at out reply [] (started at out) st reply
-start-sofar st at out reply = record {
-  ran = record { status-is = refl; count-is = refl; read-is = refl; store-is = refl; written = written-none reply out };
+start-sofar : (s : List ℕ) (st : Store) (at out : ℕ) (reply : List ℕ) → Sofar s st at out reply [] (started at out) st reply
+start-sofar s st at out reply = record {
+  ran = record { status-is = refl; count-is = refl; read-is = refl; place-is = refl; store-is = refl; written = written-none reply out };
   place = omega arith;
 }
 
 -- one more
-more-sofar : {st after after′ : Store} {at out : ℕ} {before reply reply′ counts : List ℕ} (zs : List Event) (z : Event) {r r′ : Progress}
-    → Sofar st at out before zs r after reply → out ≤ length before → Turned z r r′ after′ counts reply reply′ → length (resultBytes z) ≤ 2179
-    → Sofar st at out before (zs ++ (z ∷ [])) r′ after′ reply′
-more-sofar {st} {after} {after′} {at} {out} {before} zs z {r} {r′} d long t short =
+more-sofar : (s : List ℕ) {st after after′ : Store} {at out : ℕ} {before reply reply′ counts : List ℕ} (zs : List Event) (z : Event) {r r′ : Progress}
+    → Sofar s st at out before zs r after reply → out ≤ length before → Turned z (faultAt s (r .read)) r r′ after′ counts reply reply′ → length (resultBytes z) ≤ 2179
+    → faultAt s (r .read) ≡ cond (eqb (z .status) BADXDR) (faultAt s (placeAfter (r .read) (z .item))) NOWHERE
+    → Sofar s st at out before (zs ++ (z ∷ [])) r′ after′ reply′
+more-sofar s {st} {after} {after′} {at} {out} {before} zs z {r} {r′} d long t short told =
     let both = written-then long (d .ran .written) (t .answered .written) in
     record {
       ran = record {
         status-is = t .answered .status-is ∙ sym (last-end (λ y. y .status) 0 zs z);
         count-is = t .count-is ∙ omega (arith, d .ran .count-is, length-append zs (z ∷ []));
         read-is = t .read-is ∙ ap (λ p. placeAfter p (z .item)) (d .ran .read-is) ∙ sym (place-end at zs z);
+        place-is = t .place-is ∙ told ∙ rw (last-end (λ y. y .status) 0 zs z, place-end at zs z, d .ran .read-is);
         store-is = ap (λ (x : State). x .store) (t .answered .state-is) ∙ sym (last-end (λ y. y .after .store) st zs z);
         written = rw (results-end zs z) (record { bytes = both .bytes; size = refl; place = both .place ∙ ap (λ n. out + n) (sym (both .size)) });
       };
@@ -154,7 +163,7 @@ more-sofar {st} {after} {after′} {at} {out} {before} zs z {r} {r′} d long t 
 -- before each turn: the events so far, then those of the run that is left, are all of them
 pub record Held (g : Geometry) (v s : List ℕ) (st : Store) (ops at out : ℕ) (before : List ℕ) (x : State) (counts reply : List ℕ) (r : Progress) : Type 0 where
   pub zs : List Event
-  pub sofar : Sofar st at out before zs r (x .store) reply
+  pub sofar : Sofar s st at out before zs r (x .store) reply
   pub left : reached (config g v) (fresh st) (items s ops at) ≡ zs ++ reached (config g v) x (items s (ops - r .count) (r .read))
   pub within : r .count ≤ ops
   pub known : Known g x
@@ -174,7 +183,7 @@ module _ {g : Geometry} {v s : List ℕ} (hv : length v ≡ 8) {st : Store} {ops
       let all : ops ≡ ops - 0 = omega arith in
       subst (λ (q : Progress). Held g v s st ops (r₀ .read) (r₀ .at .at) before (stateOf (q .at) st) counts₀ before q) (sym (a .start)) (record {
         zs = [];
-        sofar = start-sofar st (r₀ .read) (r₀ .at .at) before;
+        sofar = start-sofar s st (r₀ .read) (r₀ .at .at) before;
         left = ap (λ (m : ℕ). reached (config g v) (fresh st) (items s m (r₀ .read))) all;
         within = omega arith;
         known = record { shaped = a .shaped; sound = a .sound; current = no-handle g; saved = no-handle g };
@@ -198,14 +207,14 @@ module _ {g : Geometry} {v s : List ℕ} (hv : length v ≡ 8) {st : Store} {ops
       omega (arith, a .few, l),
     )
 
-    pub held-end : ops ≤ r .count → RanAll (reached (config g v) (fresh st) (items s ops (r₀ .read))) st (r₀ .read) (r₀ .at .at) r st₁ before reply
+    pub held-end : ops ≤ r .count → RanAll s (reached (config g v) (fresh st) (items s ops (r₀ .read))) st (r₀ .read) (r₀ .at .at) r st₁ before reply
     unfolding items reached
     held-end l =
         let none-left : ops - r .count ≡ 0 = omega arith in
         rw (h .left, none-left, append-nil (h .zs)) (h .sofar .ran)
 
     module _ (l : r .count < ops) {r′ : Progress} {after : Store} {counts′ reply′ : List ℕ}
-        (t : Turned (eventAt (config g v) (stateOf (r .at) st₁) s (r .read)) r r′ after counts′ reply reply′) where
+        (t : Turned (eventAt (config g v) (stateOf (r .at) st₁) s (r .read)) (faultAt s (r .read)) r r′ after counts′ reply reply′) where
       abbrev z : Event
       z = eventAt (config g v) (stateOf (r .at) st₁) s (r .read)
 
@@ -215,10 +224,10 @@ module _ {g : Geometry} {v s : List ℕ} (hv : length v ≡ 8) {st : Store} {ops
       step-left : ops - r .count ≡ suc (ops - r′ .count)
       step-left = omega (arith, l, t .count-is)
 
-      sofar-more : Sofar st (r₀ .read) (r₀ .at .at) before (h .zs ++ (z ∷ [])) r′ after reply′
-      sofar-more = more-sofar (h .zs) z (h .sofar) (omega (arith, a .room)) t (stands .short)
+      sofar-more : Sofar s st (r₀ .read) (r₀ .at .at) before (h .zs ++ (z ∷ [])) r′ after reply′
+      sofar-more = more-sofar s (h .zs) z (h .sofar) (omega (arith, a .room)) t (stands .short) (stands .told)
 
-      pub held-stop : r′ .status ≢ 0 → RanAll (reached (config g v) (fresh st) (items s ops (r₀ .read))) st (r₀ .read) (r₀ .at .at) r′ after before reply′
+      pub held-stop : r′ .status ≢ 0 → RanAll s (reached (config g v) (fresh st) (items s ops (r₀ .read))) st (r₀ .read) (r₀ .at .at) r′ after before reply′
       held-stop n =
           let fails : z .status ≢ 0 = λ e. n (t .answered .status-is ∙ e) in
           let all : reached (config g v) (fresh st) (items s ops (r₀ .read)) ≡ h .zs ++ (z ∷ []) =

@@ -16,6 +16,7 @@ use Rattle.rules.specs.Lists.{first}
 use Rattle.rules.specs.Store.{Geometry, Store, need, fitsPool}
 use Rattle.rules.specs.Edit.{Edit, edited}
 use Rattle.rules.specs.Operation.{NOSPC, Op, Item, op, bad, opNumber, itemAt}
+use Rattle.rules.specs.Fault.{NOWHERE, faultAt}
 use Rattle.rules.specs.Run.{State, fileOf, Config, Event, failed, errors, sets, shows, edits, does, effect, body, countedAfter, perform}
 use Rattle.rules.specs.Calls.{itemNumber, resultBytes, placeAfter}
 use Rattle.tables.specs.Tables.{TableTrue}
@@ -176,33 +177,36 @@ region-small {g} {e = e} a = go (decLt (e .off) (e .end))
 -- the run after an operation that was answered
 pub stepped : (c : Config) (x : State) (o : Op) (r : Progress) {a : Answer} {after : Store} {counts before reply : List ℕ}
     → Answered (perform c x o (r .read)) a after counts (r .at .at) before reply
-    → Turned (perform c x o (r .read)) r (record { status = a .status; count = r .count + 1; read = r .read; at = a .after }) after counts before reply
-stepped c x o r a = record { answered = a; count-is = refl; read-is = sym (ap (placeAfter (r .read)) (perform-item c x o (r .read))) }
+    → Turned (perform c x o (r .read)) NOWHERE r (record { status = a .status; count = r .count + 1; read = r .read; place = NOWHERE; at = a .after }) after counts before reply
+stepped c x o r a = record { answered = a; count-is = refl; read-is = sym (ap (placeAfter (r .read)) (perform-item c x o (r .read))); place-is = refl }
 
 -- what does not decode
-pub stopped : {number status : ℕ} {r : Progress} {a : Answer} {before reply : List ℕ} → Wrote number status [] (r .at) a before reply
+pub stopped : {number status place : ℕ} {r : Progress} {a : Answer} {before reply : List ℕ} → Wrote number status [] (r .at) a before reply
     → (st : Store) (counts : List ℕ) → TableTrue (st .words) counts
-    → Turned (failed (bad number status) (stateOf (r .at) st) status) r (record { status = status; count = r .count + 1; read = r .read; at = a .after }) st counts before reply
-stopped {number} {status} {r} w st counts t = record {
+    → Turned (failed (bad number status) (stateOf (r .at) st) status) place r (record { status = status; count = r .count + 1; read = r .read; place = place; at = a .after }) st counts before reply
+stopped {number} {status} {place} {r} w st counts t = record {
   answered = rw (w .status-is) at (answers {z = failed (bad number status) (stateOf (r .at) st) status} {after = st} refl refl refl refl t w);
   count-is = refl;
   read-is = refl;
+  place-is = refl;
 }
 
 -- and after the item i that stands at place `at`
-pub turned : (c : Config) (x : State) (s : List ℕ) (at : ℕ) {i : Item} {r r′ : Progress} {after : Store} {counts before reply : List ℕ}
-    → i ≡ itemAt s at
-    → Turned (elim i [ op o next ↦ perform c x o next | bad k e ↦ failed (bad k e) x e ]) r r′ after counts before reply
-    → Turned (eventAt c x s at) r r′ after counts before reply
+pub turned : (c : Config) (x : State) (s : List ℕ) (at : ℕ) {i : Item} {p : ℕ} {r r′ : Progress} {after : Store} {counts before reply : List ℕ}
+    → i ≡ itemAt s at → p ≡ faultAt s at
+    → Turned (elim i [ op o next ↦ perform c x o next | bad k e ↦ failed (bad k e) x e ]) p r r′ after counts before reply
+    → Turned (eventAt c x s at) (faultAt s at) r r′ after counts before reply
 unfolding eventAt
-turned c x s at {i} {r} {r′} {after} {counts} {before} {reply} e t =
-    subst (λ (i : Item). Turned (elim i [ op o next ↦ perform c x o next | bad k e ↦ failed (bad k e) x e ]) r r′ after counts before reply) e t
+turned c x s at {i} {p} {r} {r′} {after} {counts} {before} {reply} e f t =
+    subst (λ (i : Item). Turned (elim i [ op o next ↦ perform c x o next | bad k e ↦ failed (bad k e) x e ]) (faultAt s at) r r′ after counts before reply) e
+    (subst (λ (p : ℕ). Turned (elim i [ op o next ↦ perform c x o next | bad k e ↦ failed (bad k e) x e ]) p r r′ after counts before reply) f t)
 
 -- the place behind the operation was set before it was run
-pub read-moved : (c : Config) (x : State) (o : Op) (next : ℕ) (r : Progress) {m r′ : Progress} {after : Store} {counts before reply : List ℕ} → m .at ≡ r .at → m .count ≡ r .count
-    → m .read ≡ next → Turned (perform c x o next) m r′ after counts before reply → Turned (perform c x o next) r r′ after counts before reply
-read-moved c x o next r {m} {r′} {after} {counts} {before} {reply} at-is count-is read-is t = record {
+pub read-moved : (c : Config) (x : State) (o : Op) (next : ℕ) (r : Progress) {p : ℕ} {m r′ : Progress} {after : Store} {counts before reply : List ℕ} → m .at ≡ r .at → m .count ≡ r .count
+    → m .read ≡ next → Turned (perform c x o next) p m r′ after counts before reply → Turned (perform c x o next) p r r′ after counts before reply
+read-moved c x o next r {p} {m} {r′} {after} {counts} {before} {reply} at-is count-is read-is t = record {
   answered = subst (λ (q : Position). Answered (perform c x o next) (record { status = r′ .status; after = r′ .at }) after counts (q .at) before reply) at-is (t .answered);
   count-is = t .count-is ∙ ap (λ (n : ℕ). n + 1) count-is;
   read-is = t .read-is ∙ ap (placeAfter (m .read)) (perform-item c x o next) ∙ sym (ap (placeAfter (r .read)) (perform-item c x o next));
+  place-is = t .place-is;
 }

@@ -1,7 +1,7 @@
 -- The call that serves a compound: its refusals one by one, and the reply of the operations reached.
 use Prim.Native.Nat.{ℕ, zero, suc, _+_, _≤_, _<_}
 use mathlib.Core.Path.{_≡_, refl, sym, ap, _∙_}
-use mathlib.Core.Bool.{Bool, true, false, cond, not}
+use mathlib.Core.Bool.{Bool, true, false, not}
 use mathlib.Core.List.{List, [], _∷_, _++_, append-nil}
 use mathlib.Core.Logic.{_≢_}
 use native.Mathlib.Omega.{arith}
@@ -15,7 +15,7 @@ use Rattle.xdr.specs.Decode.{got, fault}
 use Rattle.rules.specs.Lists.{first}
 use Rattle.rules.specs.Store.{Geometry, goodGeometry, Store, goodLengths, sound}
 use Rattle.rules.specs.Operation.{MINOR-VERS-MISMATCH, TOO-MANY-OPS, BADXDR, items, Header, header}
-use Rattle.rules.specs.Fault.{NOWHERE, faultAt}
+use Rattle.rules.specs.Fault.{NOWHERE}
 use Rattle.rules.specs.Run.{reached, config}
 use Rattle.rules.specs.Calls.{storeRefusal, resultBytes, replyHead, replyBytes, lastStatus, fresh, headerStatus, compound, Outcome, Gives, withPlace, refuse, served, refusal, Call, answerNoPlace, lastFault, placeOf, answer, Contract}
 use Rattle.tables.specs.Survey.{TableReady, Surveyed}
@@ -67,14 +67,13 @@ module _ (g : Geometry) (v s : List ℕ) (st : Store) (buf : List ℕ) (h : Head
       })
 
   -- the head in front of the results of a run
-  pub served-some : headerStatus h ≡ 0 → {out n w p : ℕ} {r : Progress} {after : Store} {mid reply : List ℕ} → out ≡ n
-      → RanAll (reached (config g v) (fresh st) (items s (h .ops) at)) st at out r after buf mid → out + 26148 ≤ length buf
+  pub served-some : headerStatus h ≡ 0 → {out n w : ℕ} {r : Progress} {after : Store} {mid reply : List ℕ} → out ≡ n
+      → RanAll s (reached (config g v) (fresh st) (items s (h .ops) at)) st at out r after buf mid → out + 26148 ≤ length buf
       → length (concatMap resultBytes (compound (config g v) st s h at)) ≤ 26148
       → Written (replyHead .write (r .status, (h .tag, r .count))) n 0 mid reply w
-      → p ≡ cond (eqb (r .status) BADXDR) (faultAt s (r .read)) NOWHERE
-      → ServedRight (config g v) st s h at buf (record { number = 0; read = r .read; written = r .at .at; place = p; reply = reply; store = after })
+      → ServedRight (config g v) st s h at buf (record { number = 0; read = r .read; written = r .at .at; place = r .place; reply = reply; store = after })
   unfolding served replyBytes lastFault
-  served-some q {out} {n} {w} {p} {r} e run room most head place =
+  served-some q {out} {n} {w} {r} e run room most head =
       let zs = reached (config g v) (fresh st) (items s (h .ops) at) in
       let from : 0 + n ≡ out = zero-add n ∙ sym e in
       let both = written-before from (omega (arith, room, rw (events-some q) at most)) (run .written) head in
@@ -85,21 +84,12 @@ module _ (g : Geometry) (v s : List ℕ) (st : Store) (buf : List ℕ) (h : Head
         number = refl;
         read = run .read-is;
         written = all .1 ∙ ap length (sym is);
-        place = place ∙ rw (q, run .status-is, run .read-is);
+        place = run .place-is ∙ rw q;
         reply = all .0 ∙ ap (λ (l : List ℕ). l ++ drop (length l) buf) (sym is);
         sizes = ap (λ (u : Store). u .sizes) (run .store-is);
         words = ap (λ (u : Store). u .words) (run .store-is);
         mem = ap (λ (u : Store). u .mem) (run .store-is);
       })
-
--- ---- the place of a fault
-
-module _ (status p : ℕ) where
-  pub no-fault : status ≢ BADXDR → NOWHERE ≡ cond (eqb status BADXDR) p NOWHERE
-  no-fault n = rw (ne-eqb status BADXDR n)
-
-  pub the-fault : {q : ℕ} → status ≡ BADXDR → q ≡ p → q ≡ cond (eqb status BADXDR) p NOWHERE
-  the-fault e h = h ∙ rw (eq-eqb status BADXDR e)
 
 -- ---- the refusals
 

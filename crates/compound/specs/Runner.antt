@@ -1,14 +1,16 @@
 -- The runner's values and what its functions leave. Contracts cite these records.
 use Prim.Native.Nat.{ℕ, _+_, _≤_, _<_}
 use mathlib.Core.Path.{_≡_}
-use mathlib.Core.Bool.{true}
+use mathlib.Core.Bool.{true, cond}
 use mathlib.Core.Option.{Option, none, some}
 use mathlib.Core.List.{List, _++_}
 use lib.ListN.{length, getD}
+use lib.Dec.{eqb}
 use Rattle.xdr.specs.Bytes.{Written}
 use Rattle.xdr.specs.Encode.{u32, u64, concatMap}
 use Rattle.rules.specs.Store.{Geometry, goodGeometry, Store, sound}
-use Rattle.rules.specs.Operation.{op, bad, itemAt, Header}
+use Rattle.rules.specs.Operation.{BADXDR, op, bad, itemAt, Header}
+use Rattle.rules.specs.Fault.{NOWHERE, faultAt}
 use Rattle.rules.specs.Run.{State, fileOf, Config, config, Event, failed, perform}
 use Rattle.rules.specs.Calls.{compound, resultBytes, placeAfter, lastPlace, lastStatus, lastStore, Call, Outcome, withPlace, served, lastFault, Gives}
 use Rattle.store.specs.Readable.{Placed}
@@ -115,17 +117,18 @@ pub record Answered (z : Event) (r : Answer) (after : Store) (counts : List ℕ)
 unfoldable pub eventAt : Config → State → List ℕ → ℕ → Event
 eventAt c x s at = elim (itemAt s at) [ op o next ↦ perform c x o next | bad k e ↦ failed (bad k e) x e ]
 
--- the run before and after it
-pub record Turned (z : Event) (r r′ : Progress) (after : Store) (counts before reply : List ℕ) : Type 0 where
+-- the run before and after it, and the place of its fault
+pub record Turned (z : Event) (fault : ℕ) (r r′ : Progress) (after : Store) (counts before reply : List ℕ) : Type 0 where
   pub answered : Answered z (record { status = r′ .status; after = r′ .at }) after counts (r .at .at) before reply
   pub count-is : r′ .count ≡ r .count + 1
   pub read-is : r′ .read ≡ placeAfter (r .read) (z .item)
+  pub place-is : r′ .place ≡ fault
 
 -- ---- all of them
 
 -- before the first
 abbrev pub started : ℕ → ℕ → Progress
-started read out = record { status = 0; count = 0; read = read; at = record { current = Handle.Nothing; saved = Handle.Nothing; at = out } }
+started read out = record { status = 0; count = 0; read = read; place = NOWHERE; at = record { current = Handle.Nothing; saved = Handle.Nothing; at = out } }
 
 -- a compound of at most 12 operations from a sound store on: the reply has room for all results
 pub record RunsAll (g : Geometry) (st : Store) (counts : List ℕ) (ops : ℕ) (reply : List ℕ) (r : Progress) : Type 0 where
@@ -137,11 +140,12 @@ pub record RunsAll (g : Geometry) (st : Store) (counts : List ℕ) (ops : ℕ) (
   pub start : r ≡ started (r .read) (r .at .at)
   pub room : r .at .at + 26148 ≤ length reply
 
--- how the run ends: by the operations reached
-pub record RanAll (zs : List Event) (st : Store) (at out : ℕ) (r : Progress) (after : Store) (before reply : List ℕ) : Type 0 where
+-- how the run of request s ends: by the operations reached
+pub record RanAll (s : List ℕ) (zs : List Event) (st : Store) (at out : ℕ) (r : Progress) (after : Store) (before reply : List ℕ) : Type 0 where
   pub status-is : r .status ≡ lastStatus 0 zs
   pub count-is : r .count ≡ length zs
   pub read-is : r .read ≡ lastPlace at zs
+  pub place-is : r .place ≡ cond (eqb (lastStatus 0 zs) BADXDR) (faultAt s (lastPlace at zs)) NOWHERE
   pub store-is : after ≡ lastStore st zs
   pub written : Written (concatMap resultBytes zs) (length (concatMap resultBytes zs)) out before reply (r .at .at)
 

@@ -7,6 +7,7 @@ ghost use Rattle.tables.specs.Lent.{geometryOf, after, before, tables};
 ghost use Rattle.tables.specs.Tables.{TableTrue};
 ghost use Rattle.rules.specs.Store.{Store};
 ghost use Rattle.rules.specs.Operation.{bad, items, opNumber};
+ghost use Rattle.rules.specs.Fault.{NOWHERE, faultAt};
 ghost use Rattle.rules.specs.Run.{failed, perform, reached};
 ghost use Rattle.rules.specs.Calls.{fresh};
 ghost use Rattle.wire.specs.Decoded.{meaning};
@@ -32,11 +33,13 @@ pub struct Config {
     pub verifier: u64,
 }
 
-// Where a run stands: the last status, the operations reached, the next byte to read, and the position.
+// Where a run stands: the last status, the operations reached, the next byte to read, the fault of the last operation, and the
+// position.
 pub struct Progress {
     pub status: u32,
     pub count: u32,
     pub read: usize,
+    pub place: usize,
     pub at: Position,
 }
 
@@ -49,6 +52,7 @@ impl Progress {
             status: Answer::OK,
             count: 0,
             read,
+            place: Item::NOWHERE,
             at: Position {
                 current: Handle::Nothing,
                 saved: Handle::Nothing,
@@ -127,7 +131,7 @@ fn step(
     reply: &mut [u8],
 ) -> Progress
     requires { ⌜ Runs (geometryOf (c .geometry)) (stateOf (r .at) (tables sizes words mem)) (now counts) (now reply) (r .at .at) × (r .count < 12) ⌝ }
-    ensures { λ r′. ⌜ Turned (perform (configOf c) (stateOf (r .at) (before sizes words mem)) (meaning (now (s .entry)) o) (r .read))
+    ensures { λ r′. ⌜ Turned (perform (configOf c) (stateOf (r .at) (before sizes words mem)) (meaning (now (s .entry)) o) (r .read)) NOWHERE
         r r′ (after sizes words mem) (now (counts .exit)) (now (reply .entry)) (now (reply .exit)) ⌝ }
 {
     let p = r.at;
@@ -137,15 +141,16 @@ fn step(
         status: a.status,
         count: r.count + 1,
         read: r.read,
+        place: Item::NOWHERE,
         at,
     }
 }
 
-// The result of what does not decode: number and status.
-fn stop(number: u32, status: u32, r: Progress, reply: &mut [u8]) -> Progress
+// The result of what does not decode: number and status; and the place of its fault.
+fn stop(number: u32, status: u32, place: usize, r: Progress, reply: &mut [u8]) -> Progress
     requires { ⌜ (r .at .at + 8 ≤ length (now reply)) × (r .count < 12) ⌝ }
     ensures { λ r′. ⌜ ((st : Store) (counts : List ℕ) → TableTrue (st .words) counts
-        → Turned (failed (bad number status) (stateOf (r .at) st) status)
+        → Turned (failed (bad number status) (stateOf (r .at) st) status) place
         r r′ st counts (now (reply .entry)) (now (reply .exit))) ⌝ }
 {
     let p = r.at;
@@ -155,6 +160,7 @@ fn stop(number: u32, status: u32, r: Progress, reply: &mut [u8]) -> Progress
         status,
         count: r.count + 1,
         read: r.read,
+        place,
         at,
     }
 }
@@ -171,7 +177,7 @@ fn turn(
     reply: &mut [u8],
 ) -> Progress
     requires { ⌜ Runs (geometryOf (c .geometry)) (stateOf (r .at) (tables sizes words mem)) (now counts) (now reply) (r .at .at) × (r .count < 12) ⌝ }
-    ensures { λ r′. ⌜ Turned (eventAt (configOf c) (stateOf (r .at) (before sizes words mem)) (now (s .entry)) (r .read))
+    ensures { λ r′. ⌜ Turned (eventAt (configOf c) (stateOf (r .at) (before sizes words mem)) (now (s .entry)) (r .read)) (faultAt (now (s .entry)) (r .read))
         r r′ (after sizes words mem) (now (counts .exit)) (now (reply .entry)) (now (reply .exit)) ⌝ }
 {
     match item(s, Cursor::new(r.read)) {
@@ -182,12 +188,13 @@ fn turn(
                 status: r.status,
                 count: r.count,
                 read,
+                place: r.place,
                 at,
             };
             step(c, sizes, words, mem, counts, s, o, moved, reply)
         }
-        Item::Bad(number, status) => stop(number, status, r, reply),
-        Item::Fault(number, _) => stop(number, Operation::BADXDR, r, reply),
+        Item::Bad(number, status) => stop(number, status, Item::NOWHERE, r, reply),
+        Item::Fault(number, place) => stop(number, Operation::BADXDR, place, r, reply),
     }
 }
 
@@ -204,7 +211,7 @@ pub fn run(
     reply: &mut [u8],
 ) -> Progress
     requires { ⌜ RunsAll (geometryOf (c .geometry)) (tables sizes words mem) (now counts) ops (now reply) start ⌝ }
-    ensures { λ r. ⌜ RanAll (reached (configOf c) (fresh (before sizes words mem)) (items (now (s .entry)) ops (start .read)))
+    ensures { λ r. ⌜ RanAll (now (s .entry)) (reached (configOf c) (fresh (before sizes words mem)) (items (now (s .entry)) ops (start .read)))
         (before sizes words mem) (start .read) (start .at .at) r (after sizes words mem) (now (reply .entry)) (now (reply .exit)) ⌝ }
 {
     let mut r = start;

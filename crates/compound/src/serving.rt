@@ -1,6 +1,6 @@
 // The call that serves a compound: the refusals in their order, then the operations, then the reply's head.
 ghost use mathlib.Core.Path.{_≡_};
-ghost use mathlib.Core.Bool.{cond, not};
+ghost use mathlib.Core.Bool.{not};
 ghost use lib.Dec.{ltb, eqb};
 ghost use mathlib.Core.List.{[], _∷_};
 ghost use Prim.Native.Nat.{_+_, _≤_};
@@ -9,8 +9,8 @@ ghost use Rattle.xdr.specs.Bytes.{partOf, Written};
 ghost use Rattle.xdr.specs.Encode.{u64, opaqueSize};
 ghost use Rattle.tables.specs.Lent.{geometryOf, after, before, tables};
 ghost use Rattle.rules.specs.Lists.{first};
-ghost use Rattle.rules.specs.Operation.{MINOR-VERS-MISMATCH, TOO-MANY-OPS, BADXDR};
-ghost use Rattle.rules.specs.Fault.{NOWHERE, faultAt};
+ghost use Rattle.rules.specs.Operation.{MINOR-VERS-MISMATCH, TOO-MANY-OPS};
+ghost use Rattle.rules.specs.Fault.{NOWHERE};
 ghost use Rattle.rules.specs.Calls.{replyHead, Contract};
 ghost use Rattle.rules.specs.Run.{config};
 ghost use Rattle.tables.specs.Tables.{Shaped};
@@ -28,7 +28,6 @@ use wire::HeaderRead;
 use wire::Item;
 use wire::Operation;
 use wire::header;
-use wire::item;
 use xdr::Cursor;
 use xdr::Long;
 
@@ -103,16 +102,6 @@ fn put_head(reply: &mut [u8], status: u32, tag: &[u8], count: u32) -> usize
     xdr::put_u32(reply, next, count)
 }
 
-// The fault of the operation at place `at`, the last one reached, where its status is BADXDR.
-fn last_fault(s: &[u8], status: u32, at: usize) -> usize
-    ensures { λ r. ⌜ r ≡ cond (eqb status BADXDR) (faultAt (now (s .entry)) at) NOWHERE ⌝ }
-{
-    if status != Operation::BADXDR {
-        return Item::NOWHERE;
-    }
-    item(s, Cursor::new(at)).fault()
-}
-
 // A compound whose header was read, on a store that was found sound. The results are written first: their place is known from the
 // tag, their number and the last status are not.
 fn serve_operations(
@@ -149,7 +138,7 @@ fn serve_operations(
         number: 0,
         read: r.read,
         written: r.at.at,
-        place: last_fault(s, r.status, r.read),
+        place: r.place,
     }
 }
 

@@ -17,14 +17,14 @@ use Rattle.xdr.proofs.ReaderLaws.{fixed-onward, number-onward, bounded-onward, 
 use Rattle.rules.specs.Lists.{first}
 use Rattle.rules.specs.Store.{Geometry, Store}
 use Rattle.rules.specs.Operation.{NOTSUPP, MINOR-VERS-MISMATCH, BADXDR, TOO-MANY-OPS, OP-ILLEGAL, SEQUENCE-POS, Op, GETATTR, GETFH, RESTOREFH, SAVEFH, PUTFH, READ, READ-PLUS, ALLOCATE, DEALLOCATE, SEEK, stateid, handleArgs, bitmapArgs, readArgs, writeArgs, regionArgs, cloneArgs, copyArgs, three, writeOf, cloneOf, copyOf, reading, readers, find, Item, op, bad, argsItem, SEQUENCE, isOperation, ILLEGAL, unserved, numberItem, itemAt, items, Header, headerLayout, header}
-use Rattle.rules.specs.Fault.{NOWHERE, argsBy, opReader, faultAt}
+use Rattle.rules.specs.Fault.{NOWHERE, faultOf, argsBy, opReader, faultAt}
 use Rattle.rules.specs.Run.{State, Config, config, Event, perform, reached}
 use Rattle.rules.specs.Calls.{fresh, headerStatus, compound, lastStatus, lastPlace, Call, refusal, withPlace, served, answerNoPlace, lastFault, placeOf, answer}
 use Rattle.rules.specs.Claim.{Ran}
 use Rattle.rules.specs.Place.{opsReader, requestReader, Mends, OutOfRange, PlaceRight, PlaceTold, PlaceClaim}
 use Rattle.rules.proofs.GeometryLaws.{Good}
 use Rattle.rules.proofs.OperationLaws.{performed, performed-item}
-use Rattle.rules.proofs.ChainLaws.{Chain, cons, chain-start, performed-decodes}
+use Rattle.rules.proofs.ChainLaws.{op≢bad, Chain, cons, chain-start, performed-decodes}
 use Rattle.rules.proofs.AnswerLaws.{Accepted, Refusal, early, no-header, accepted-or-refused, refusal-most, refused-no-place, refused-is, refused-call, passed, zs, status, accepted-chain, served-no-place, ran-is, number-is, read-is}
 use Rattle.rules.proofs.ClaimProof.{some-ran, none-ran}
 
@@ -133,6 +133,28 @@ item-tells s at = go (number 4 s at)
     go : (t : Parsed ℕ) → Tells (numberItem s t) (andThen t (λ n next. argsBy (find n readers) s next))
     go (fault p) = faults ILLEGAL p
     go (got n m) = by n m (find n readers)
+
+bad-status : {j d k e : ℕ} → bad j d ≡ bad k e → d ≡ e
+bad-status q = cc
+
+-- the fault of an operation that was read, and of what ends the compound
+pub no-fault : (s : List ℕ) (at : ℕ) {o : Op} {next : ℕ} → itemAt s at ≡ op o next → faultAt s at ≡ NOWHERE
+unfolding faultAt
+no-fault s at {o} {next} e = go (item-tells s at) e
+  where
+    go : {i : Item} {t : Parsed (Option Op)} → Tells i t → i ≡ op o next → faultOf t ≡ NOWHERE
+    go (reads o′ m) q = refl
+    go (faults k p) q = absurd (op≢bad (sym q))
+    go (unlike k d m h) q = refl
+
+pub bad-fault : (s : List ℕ) (at : ℕ) {k e : ℕ} → itemAt s at ≡ bad k e → faultAt s at ≡ cond (eqb e BADXDR) (faultAt s at) NOWHERE
+unfolding faultAt
+bad-fault s at {k} {e} q = go (item-tells s at) q
+  where
+    go : {i : Item} {t : Parsed (Option Op)} → Tells i t → i ≡ bad k e → faultOf t ≡ cond (eqb e BADXDR) (faultOf t) NOWHERE
+    go (reads o m) q = absurd (op≢bad q)
+    go (faults j p) q = rw (eq-eqb e BADXDR (sym (bad-status q)))
+    go (unlike j d m h) q = rw (ne-eqb e BADXDR (λ r. h (bad-status q ∙ r)))
 
 -- ---- the operations reached: where the last one's status is BADXDR, its fault is the first of the list
 

@@ -1,6 +1,4 @@
 // A decoded request: its header, and an operation. The tag, stateids, handles and data stay where they are, as spans.
-ghost use mathlib.Core.Path.{_≡_};
-ghost use Rattle.wire.specs.Decoded.{faultIn};
 use xdr::Cursor;
 use xdr::Span;
 
@@ -141,15 +139,4 @@ pub enum Item {
 impl Item {
     // The place where there is no fault.
     pub const NOWHERE: usize = 4294967295;
-
-    // The place of the fault.
-    pub fn fault(self) -> usize
-        ensures { λ r. ⌜ r ≡ faultIn self ⌝ }
-    {
-        match self {
-            Item::Op(_, _) => Item::NOWHERE,
-            Item::Bad(_, _) => Item::NOWHERE,
-            Item::Fault(_, p) => p,
-        }
-    }
 }

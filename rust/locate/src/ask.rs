@@ -53,8 +53,7 @@ pub enum Found {
 /// the request was made for it may not fail.
 pub fn ask(request: &[u8]) -> Found {
     let mut rest = request.to_vec();
-    // Operations that were passed, and how many bytes stand in front of `rest`'s first one less
-    // than in the request.
+    // The operations that were passed, and how much further on a place of `rest` is in the request.
     let (mut passed, mut shift) = (0, 0);
     loop {
         let (served, reply) = answer(&rest);

@@ -39,7 +39,7 @@ put-head-requires-2 c κs =
 
 returns-2 : tie.Need-returns-2
 returns-2 c =
-    let h = c .before .before .before in
+    let h = c .before .before in
     let r = h .before .before .before .before .before .before .before .before .before .before .before .before in
     let start = r .before .before .before .before .before .before in
     let d = start .before in
@@ -49,7 +49,7 @@ returns-2 c =
     served-some _ _ _ _ _ _ _ (sym (e .header-status .ensures) ∙ d .before .if1 .left)
     (head-place _ _ _ (ap length (k .part .ensures .bytes-are)) (d .padding .ensures)) (rw (start .start .ensures) at (r .run .ensures))
     (omega (arith, s .pre .0 .room, s .pre .1, ap length (k .part .ensures .bytes-are), d .padding .ensures)) (results-fit (s .pre .0) _ _ (length-u64 _) _ _)
-    (rw (k .part .ensures .bytes-are) at (h .put-head2 .ensures)) (c .last-fault .ensures)
+    (rw (k .part .ensures .bytes-are) at (h .put-head2 .ensures))
 
 pub serve-operations-spec : {M : Type 1} → statement M
 serve-operations-spec =
@@ -57,5 +57,5 @@ serve-operations-spec =
     (tie.spec
     (λ c κs. search needs) (λ c κs. search needs) put-head-requires (λ c. search needs) returns
     (λ c κs. search needs) (λ c. search needs) (λ c. search needs) (λ c κs. search needs) run-requires
-    put-head-requires-2 (λ c κs. search needs) (λ c. search needs) (λ c. search needs) (λ c. search needs)
-    (λ c. search needs) (λ c. search needs) returns-2)
+    put-head-requires-2 (λ c. search needs) (λ c. search needs) (λ c. search needs) (λ c. search needs)
+    (λ c. search needs) returns-2)

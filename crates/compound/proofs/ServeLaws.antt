@@ -23,7 +23,7 @@ use Rattle.rules.proofs.GeometryLaws.{good, block-pos}
 use Rattle.rules.proofs.SoundLaws.{sound-facts}
 use Rattle.rules.proofs.FirstLaws.{all-clear}
 use Rattle.rules.proofs.ItemLaws.{header-reads}
-use Rattle.rules.proofs.PlaceProof.{header-decodes}
+use Rattle.rules.proofs.AnswerLaws.{header-own}
 use Rattle.rules.proofs.ReplyLaws.{compound-results}
 use Rattle.tables.proofs.SurveyLaws.{sound-counted, surveyed-table}
 use Rattle.compound.specs.declared.run.Progress.{Progress}
@@ -59,7 +59,7 @@ module _ (g : Geometry) (v s : List ℕ) (st : Store) (buf : List ℕ) (h : Head
         number = refl;
         read = refl;
         written = all .1 ∙ ap length (sym is);
-        place = rw (ne-eqb (headerStatus h) BADXDR (header-decodes h));
+        place = rw (ne-eqb (headerStatus h) BADXDR (header-own h .not-badxdr));
         reply = all .0 ∙ ap (λ (l : List ℕ). l ++ drop (length l) buf) (sym is);
         sizes = refl;
         words = refl;

@@ -15,12 +15,13 @@ use Rattle.xdr.specs.Decode.{Parsed, got, fault}
 use Rattle.xdr.proofs.RoundTrip.{Stands, stands-first, stands-rest}
 use Rattle.rules.specs.Lists.{first}
 use Rattle.rules.specs.Store.{Store, goodGeometry, goodLengths, sound}
-use Rattle.rules.specs.Operation.{Header, header}
+use Rattle.rules.specs.Operation.{MINOR-VERS-MISMATCH, TOO-MANY-OPS, Header, header}
 use Rattle.rules.specs.Run.{Event}
 use Rattle.rules.specs.Calls.{fresh, headerStatus, compound, resultBytes, lastStatus, lastStore, lastPlace, replyHead, replyBytes, Call, withPlace, refuse, served, refusals, refusal, answerNoPlace, placeOf, answer}
 use Rattle.rules.specs.Claim.{ranCall, serving, events, Results, Says, Refused}
 use Rattle.rules.proofs.BoolLaws.{and-left, and-right}
 use Rattle.rules.proofs.FirstLaws.{all-clear}
+use Rattle.rules.proofs.ErrorLaws.{OwnError, first-known}
 use Rattle.rules.proofs.GeometryLaws.{Good, good, block-pos}
 use Rattle.rules.proofs.SoundStore.{Sound}
 use Rattle.rules.proofs.SoundLaws.{sound-facts}
@@ -93,6 +94,10 @@ refused-call r = record {
 }
 
 -- ---- a served call
+
+-- the status of a compound without results
+pub header-own : (h : Header) → OwnError (headerStatus h)
+header-own h = first-known ((not (eqb (h .minor) 2), MINOR-VERS-MISMATCH) ∷ (ltb 12 (h .ops), TOO-MANY-OPS) ∷ []) refl
 
 -- what the tests say
 pub record Passed (c : Call) (st : Store) : Type 0 where
@@ -188,21 +193,13 @@ module _ {c : Call} {st : Store} {h : Header} {at : ℕ} (a : Accepted c st h at
   unfolding headBytes replyBytes
   whole = sym (length-append (replyHead .write (status, (h .tag, length zs))) (concatMap resultBytes zs))
 
-  header-most : headerStatus h ≤ 10090
-  header-most = go (not (eqb (h .minor) 2)) (ltb 12 (h .ops))
-    where
-      go : (s t : Bool) → first ((s, 10021) ∷ (t, 10070) ∷ []) ≤ 10090
-      go true t = omega arith
-      go false true = omega arith
-      go false false = omega arith
-
   pub accepted-says : Says (c .buffer) (record { status = status; tag = h .tag; events = zs }) (answer c st)
   unfolding headBytes
   accepted-says = record {
     number = number-is;
     start = 0 + length headBytes;
     head = head-read (answer c st .reply) status (h .tag) (length zs)
-        (last-status-most (c .config .geometry) (tests .bounds) (headerStatus h) accepted-chain header-most)
+        (last-status-most (c .config .geometry) (tests .bounds) (headerStatus h) accepted-chain (header-own h .most))
         tag-short (compound-few (c .config) st (c .request) h at .most) (stands-first headBytes (concatMap resultBytes zs) parts);
     results = subst (Results (answer c st .reply) (0 + length headBytes) zs) (omega (arith, whole, written-is))
         (results-read (c .config .geometry) (tests .bounds) (answer c st .reply) accepted-chain (0 + length headBytes) (stands-rest headBytes (concatMap resultBytes zs) parts));

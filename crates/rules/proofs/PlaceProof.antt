@@ -1,22 +1,21 @@
 -- The place of a fault: what it says of the request's bytes, and that the answer is otherwise what it is without it.
 use Prim.Native.Nat.{ℕ, zero, suc, _≤_}
 use mathlib.Core.Path.{_≡_, refl, sym, ap, _∙_, subst}
-use mathlib.Core.Bool.{Bool, true, false, cond, not}
+use mathlib.Core.Bool.{Bool, true, false, cond}
 use mathlib.Core.Option.{Option, none, some}
 use mathlib.Core.List.{List, [], _∷_, _++_}
 use mathlib.Core.Logic.{_≢_, _⊎_, inl, inr}
 use native.Mathlib.Omega.{arith}
 use borrow.Author.Tests.{eq-eqb, ne-eqb}
-use lib.Dec.{ltb, eqb}
+use lib.Dec.{eqb}
 use lib.ListN.{length, replicate, length-take}
 use lib.Seq.{take-append-le}
 use Rattle.xdr.specs.Decode.{Parsed, got, fault, andThen, stop, Reader, ret, number}
 use Rattle.xdr.specs.Layout.{Layout, uint, hyper, upToLimit, boolean, bytes, opaqueData, anyLength, _then_}
 use Rattle.xdr.proofs.Onward.{Onward, fault≢got, length-zeros, stops-inside, longer, ret-onward, then-onward, Completed, mended}
 use Rattle.xdr.proofs.ReaderLaws.{fixed-onward, number-onward, bounded-onward, opaque-onward, array-onward, both-onward, boolean-onward}
-use Rattle.rules.specs.Lists.{first}
 use Rattle.rules.specs.Store.{Geometry, Store}
-use Rattle.rules.specs.Operation.{NOTSUPP, MINOR-VERS-MISMATCH, BADXDR, TOO-MANY-OPS, OP-ILLEGAL, SEQUENCE-POS, Op, GETATTR, GETFH, RESTOREFH, SAVEFH, PUTFH, READ, READ-PLUS, ALLOCATE, DEALLOCATE, SEEK, stateid, handleArgs, bitmapArgs, readArgs, writeArgs, regionArgs, cloneArgs, copyArgs, three, writeOf, cloneOf, copyOf, reading, readers, find, Item, op, bad, argsItem, SEQUENCE, isOperation, ILLEGAL, unserved, numberItem, itemAt, items, Header, headerLayout, header}
+use Rattle.rules.specs.Operation.{NOTSUPP, BADXDR, OP-ILLEGAL, SEQUENCE-POS, Op, GETATTR, GETFH, RESTOREFH, SAVEFH, PUTFH, READ, READ-PLUS, ALLOCATE, DEALLOCATE, SEEK, stateid, handleArgs, bitmapArgs, readArgs, writeArgs, regionArgs, cloneArgs, copyArgs, three, writeOf, cloneOf, copyOf, reading, readers, find, Item, op, bad, argsItem, SEQUENCE, isOperation, ILLEGAL, unserved, numberItem, itemAt, items, Header, headerLayout, header}
 use Rattle.rules.specs.Fault.{NOWHERE, faultOf, argsBy, opReader, faultAt}
 use Rattle.rules.specs.Run.{State, Config, config, Event, perform, reached}
 use Rattle.rules.specs.Calls.{fresh, headerStatus, compound, lastStatus, lastPlace, Call, refusal, withPlace, served, answerNoPlace, lastFault, placeOf, answer}
@@ -25,7 +24,7 @@ use Rattle.rules.specs.Place.{opsReader, requestReader, Mends, OutOfRang
 use Rattle.rules.proofs.GeometryLaws.{Good}
 use Rattle.rules.proofs.OperationLaws.{performed, performed-item}
 use Rattle.rules.proofs.ChainLaws.{op≢bad, Chain, cons, chain-start, performed-decodes}
-use Rattle.rules.proofs.AnswerLaws.{Accepted, Refusal, early, no-header, accepted-or-refused, refusal-most, refused-no-place, refused-is, refused-call, passed, zs, status, accepted-chain, served-no-place, ran-is, number-is, read-is}
+use Rattle.rules.proofs.AnswerLaws.{Accepted, Refusal, early, no-header, accepted-or-refused, refusal-most, refused-no-place, refused-is, refused-call, header-own, passed, zs, status, accepted-chain, served-no-place, ran-is, number-is, read-is}
 use Rattle.rules.proofs.ClaimProof.{some-ran, none-ran}
 
 -- ---- every reader of a request goes on
@@ -192,14 +191,6 @@ first-fault g bd v s (suc n) at x a other ch e = go (item-tells s at) refl (λ n
 
 -- ---- a call
 
-pub header-decodes : (h : Header) → headerStatus h ≢ BADXDR
-header-decodes h = go (not (eqb (h .minor) 2)) (ltb 12 (h .ops))
-  where
-    go : (t u : Bool) → first ((t, MINOR-VERS-MISMATCH) ∷ (u, TOO-MANY-OPS) ∷ []) ≢ BADXDR
-    go true u e = omega (arith, e)
-    go false true e = omega (arith, e)
-    go false false e = omega (arith, e)
-
 module _ {c : Call} {st : Store} {h : Header} {at : ℕ} (a : Accepted c st h at) where
   -- where the reply's status is BADXDR, the fault is the first of the list
   found : status a ≡ BADXDR → FirstFault (c .request) (h .ops) at (lastPlace at (zs a))
@@ -210,8 +201,8 @@ module _ {c : Call} {st : Store} {h : Header} {at : ℕ} (a : Accepted c st h at
       run n = elim n [ zero ↦ reached (c .config) (fresh st) (items (c .request) (h .ops) at) | suc e ↦ [] ]
 
       go : (n : ℕ) → Finds (c .config .geometry) (c .request) (h .ops) at (headerStatus h) (fresh st) (run n)
-      go zero = first-fault (c .config .geometry) (passed (a .passes) .bounds) (c .config .verifier) (c .request) (h .ops) at (fresh st) (headerStatus h) (header-decodes h)
-      go (suc n) = λ ch e. absurd (header-decodes h e)
+      go zero = first-fault (c .config .geometry) (passed (a .passes) .bounds) (c .config .verifier) (c .request) (h .ops) at (fresh st) (headerStatus h) (header-own h .not-badxdr)
+      go (suc n) = λ ch e. absurd (header-own h .not-badxdr e)
 
   served-place : answer c st .place ≡ cond (eqb (status a) BADXDR) (faultAt (c .request) (lastPlace at (zs a))) NOWHERE
   unfolding answer placeOf lastFault

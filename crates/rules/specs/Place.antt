@@ -40,7 +40,7 @@ pub record PlaceRight (s : List ℕ) (start p : ℕ) : Type 0 where
   pub first : requestReader s 0 ≡ fault p
   pub from : start ≤ p
   pub to : p ≤ length s
-  -- the bytes before it are those of a request without a fault
+  -- the bytes before it are those of a request without a fault, but for a number that is cut off and out of range
   pub before : Mends s p ⊎ OutOfRange s p
 
 -- of a call: refusal 6 is of the header, at the request's start; a served one that ends in BADXDR of the operation behind the bytes read

@@ -14,7 +14,7 @@ use Rattle.rules.specs.Lists.{first}
 use Rattle.rules.specs.Store.{Geometry, Store}
 use Rattle.rules.specs.Operation.{NXIO, INVAL, FBIG, STALE, BADHANDLE, NOFILEHANDLE, BAD-STATEID, UNION-NOTSUPP, PUTFH, WRITE, ALLOCATE, DEALLOCATE, SEEK, COPY, CLONE}
 use Rattle.rules.specs.Run.{State, noFile, fileOf, readStateid, zeroStateid, tooFar, overlap, uneven, errors}
-use Rattle.rules.proofs.BoolLaws.{and-left, and-right}
+use Rattle.xdr.proofs.BoolLaws.{and-left, and-right}
 use Rattle.rules.proofs.FirstLaws.{positive}
 use Rattle.compound.specs.declared.answer.Position.{Position}
 use Rattle.compound.specs.Runner.{fileIn, stateOf}

@@ -12,7 +12,7 @@ use lib.Seq.{drop-cons}
 use lib.Dec.{leb, ltb, eqb}
 use Rattle.rules.specs.Store.{Geometry, Store}
 use Rattle.rules.specs.Run.{overlap, uneven, sameBytes, zeroStateid, readStateid}
-use Rattle.rules.proofs.BoolLaws.{and-both}
+use Rattle.xdr.proofs.BoolLaws.{and-both}
 
 -- ---- a test is known by its two answers
 

@@ -13,7 +13,7 @@ use lib.Dec.{leb}
 use borrow.Author.Tests.{le-leb, lt-leb, leb-true, lt-ltb, le-ltb}
 use Rattle.xdr.specs.Bytes.{splice, Written}
 use Rattle.xdr.proofs.BytesLaws.{splice-splice}
-use Rattle.rules.proofs.BoolLaws.{and-right}
+use Rattle.xdr.proofs.BoolLaws.{and-right}
 use Rattle.frame.specs.declared.hex.Request.{Request}
 use Rattle.rules.specs.Line.{digitValue, byteOf, byteFront, lineBytes, byteDigits, hexLine, requestOf}
 use Rattle.frame.specs.Hex.{frontOf, goodBytes, storedBytes, RequestRead}

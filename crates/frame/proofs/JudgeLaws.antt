@@ -8,7 +8,7 @@ use native.Mathlib.Omega.{arith}
 use lib.ListN.{length, take, drop, length-drop, drop-of-length-le}
 use lib.Seq.{drop-at, take-add, length-take-le}
 use Rattle.bytes.specs.Bytes.{slice, indexOf}
-use Rattle.rules.proofs.BoolLaws.{and-left, and-right, and-both, and-false}
+use Rattle.xdr.proofs.BoolLaws.{and-left, and-right, and-both, and-false}
 use lib.Dec.{leb, ltb, eqb}
 use borrow.Author.Tests.{lt-ltb, le-ltb, le-leb, lt-leb, leb-true, ne-eqb}
 use Rattle.rules.specs.Store.{Store}

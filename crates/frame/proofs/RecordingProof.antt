@@ -13,7 +13,7 @@ use lib.Dec.{leb, ltb, eqb}
 use borrow.Author.Tests.{lt-ltb, le-ltb, le-leb, ltb-true, ltb-false, eq-eqb, ne-eqb, eqb-true, eqb-false, leb-true}
 use Rattle.rules.specs.Store.{Store, emptyStore}
 use Rattle.rules.specs.Line.{frameGeometry, Line, answerLine}
-use Rattle.rules.proofs.BoolLaws.{and-left, and-both, and-false}
+use Rattle.xdr.proofs.BoolLaws.{and-left, and-both, and-false}
 use Rattle.frame.specs.declared.judge.Step.{Step}
 use Rattle.frame.specs.declared.judge.Judge.{Judge}
 use Rattle.frame.specs.Text.{Part, part, partsOf, linesOf, eachPart}

@@ -19,7 +19,7 @@ use Rattle.rules.specs.Operation.{MINOR-VERS-MISMATCH, TOO-MANY-OPS, Hea
 use Rattle.rules.specs.Run.{Event}
 use Rattle.rules.specs.Calls.{fresh, headerStatus, compound, resultBytes, lastStatus, lastStore, lastPlace, replyHead, replyBytes, Call, withPlace, refuse, served, refusals, refusal, answerNoPlace, placeOf, answer}
 use Rattle.rules.specs.Claim.{ranCall, serving, events, Results, Says, Refused}
-use Rattle.rules.proofs.BoolLaws.{and-left, and-right}
+use Rattle.xdr.proofs.BoolLaws.{and-left, and-right}
 use Rattle.rules.proofs.FirstLaws.{all-clear}
 use Rattle.rules.proofs.ErrorLaws.{OwnError, first-known}
 use Rattle.rules.proofs.GeometryLaws.{Good, good, block-pos}

@@ -15,7 +15,7 @@ use Rattle.rules.specs.Calls.{fresh, lastStore, Call, Outcome, Gives, an
 use Rattle.rules.specs.Claim.{Ran, Entry, ranCall, serving, Each, machine, events, history, Says, Refused, InOrder, OK, lastSet, Edits, GivesBack, Between, Allocated, ReadAfter, ReadsBack, Claim, EveryEvent}
 use Rattle.rules.specs.Seek.{SeekClaim}
 use Rattle.rules.specs.Emptying.{EmptyingClaim}
-use Rattle.rules.proofs.BoolLaws.{and-left, and-right, and-both}
+use Rattle.xdr.proofs.BoolLaws.{and-left, and-right, and-both}
 use Rattle.rules.proofs.GeometryLaws.{Good, good, block-pos}
 use Rattle.rules.proofs.SoundStore.{Sound}
 use Rattle.rules.proofs.SoundLaws.{sound-facts, lengths-test, sound-test}

@@ -20,7 +20,7 @@ use Rattle.rules.proofs.PlanLaws.{InPool, each-keeps, SameR, each-sameR
 use Rattle.rules.proofs.SlotByteLaws.{Local, plan-before, own-local, Wrote, wrote}
 use Rattle.rules.proofs.SoundStore.{div-lt, Sound, Edited, other-words, slots-fit, plan-past, slot-in}
 use Rattle.rules.proofs.WriteLaws.{outside, inside, file-mine, file-other}
-use Rattle.rules.proofs.BoolLaws.{and-left, and-right}
+use Rattle.xdr.proofs.BoolLaws.{and-left, and-right}
 
 -- each slot keeps its word, or `given` names it and its word is 0
 pub data Given (at : ℕ) (given : ℕ → Bool) (ws ws′ : List ℕ) (p : ℕ) : Type 0 where

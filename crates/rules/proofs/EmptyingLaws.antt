@@ -13,7 +13,7 @@ use Rattle.rules.specs.Lists.{bit, count, countTo}
 use Rattle.rules.specs.Store.{Geometry, wordOf, isHole, isReserved, holds, holders, blockBound, used, owes, owed, need}
 use Rattle.rules.specs.Attributes.{slotsOf, othersOf, heldAlone, freedBlocks, spaceFreed}
 use Rattle.rules.specs.Emptying.{sharesAlone, owedForFile, GivesBackRoom}
-use Rattle.rules.proofs.BoolLaws.{and-false}
+use Rattle.xdr.proofs.BoolLaws.{and-false}
 use Rattle.rules.proofs.CountLaws.{sumTo-ext, sumTo-add, sumTo-cut}
 use Rattle.rules.proofs.NeedLaws.{no-holder, used-to}
 use Rattle.rules.proofs.PlanLaws.{one-holder}

@@ -13,7 +13,7 @@ use Rattle.rules.specs.Lists.{first}
 use Rattle.rules.specs.Store.{Geometry, Store, sizeOf}
 use Rattle.rules.specs.Operation.{NOSPC, BADXDR, PUTFH, WRITE, ALLOCATE, DEALLOCATE, COPY, CLONE}
 use Rattle.rules.specs.Run.{State, noFile, fileOf, sourceCount, pastSource, overlap, uneven, errors}
-use Rattle.rules.proofs.BoolLaws.{and-left, and-right, and-cases, or-left, or-right, not-is}
+use Rattle.xdr.proofs.BoolLaws.{and-left, and-right, and-cases, or-left, or-right, not-is}
 use Rattle.rules.proofs.FirstLaws.{all-clear}
 
 -- ---- the numbers: statuses of at most 10,090, none of them NOSPC, and none BADXDR, which comes before, where the operation is read

@@ -7,7 +7,7 @@ use native.Mathlib.Omega.{arith}
 use borrow.Author.Tests.{ltb-true}
 use lib.Dec.{ltb}
 use Rattle.rules.specs.Lists.{first}
-use Rattle.rules.proofs.BoolLaws.{and-left, and-right}
+use Rattle.xdr.proofs.BoolLaws.{and-left, and-right}
 
 -- every number is above 0
 abbrev pub positive : List (Bool × ℕ) → Bool

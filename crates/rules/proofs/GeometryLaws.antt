@@ -9,7 +9,7 @@ use borrow.Author.Tests.{ltb-true, leb-true, eqb-true}
 use lib.ListN.{length}
 use lib.Dec.{leb, ltb, eqb}
 use Rattle.rules.specs.Store.{Geometry, goodBlockSize, goodGeometry, Store, goodLengths}
-use Rattle.rules.proofs.BoolLaws.{and-left, and-right, or-cases}
+use Rattle.xdr.proofs.BoolLaws.{and-left, and-right, or-cases}
 
 pub record Good (g : Geometry) : Type 0 where
   pub files : 1 ≤ g .F

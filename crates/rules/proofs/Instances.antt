@@ -18,7 +18,7 @@ use Rattle.rules.specs.Run.{zeroId, Event, failed}
 use Rattle.rules.specs.Calls.{fresh}
 use Rattle.rules.specs.Claim.{serving, history, OK, editDone, GivesBack, RightAfter, Allocated, ReadAfter, ReadsBack}
 use Rattle.rules.specs.Emptying.{owedForFile, Empties}
-use Rattle.rules.proofs.BoolLaws.{and-left, and-right}
+use Rattle.xdr.proofs.BoolLaws.{and-left, and-right}
 use Rattle.rules.proofs.Script as S
 
 -- ---- operations between that touch no allocated slot, or not the file: by a test

@@ -14,7 +14,7 @@ use Rattle.xdr.specs.Decode.{Parsed, got, fault, Reader, number, andThen}
 use Rattle.xdr.specs.Layout.{opaqueData, uint, _then_}
 use Rattle.xdr.proofs.Bounds.{Reads, opaque-bounded, then-reads}
 use Rattle.rules.specs.Operation.{NOSPC, NOTSUPP, SEQUENCE-POS, OP-ILLEGAL, Op, Item, op, bad, argsItem, SEQUENCE, ILLEGAL, isOperation, unserved, numberItem, readers, find, itemAt, items, Header, headerLayout, header}
-use Rattle.rules.proofs.BoolLaws.{and-left, and-right}
+use Rattle.xdr.proofs.BoolLaws.{and-left, and-right}
 
 -- ---- an item that ends the compound
 

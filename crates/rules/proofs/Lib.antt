@@ -3,7 +3,6 @@ pub mod AnswerLaws
 pub mod ArrayLaws
 pub mod AttributeLaws
 pub mod BodyLaws
-pub mod BoolLaws
 pub mod ChainLaws
 pub mod ClaimProof
 pub mod CloneLaws

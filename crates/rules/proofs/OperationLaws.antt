@@ -21,7 +21,7 @@ use Rattle.rules.specs.Operation.{NOSPC, Op, GETATTR, GETFH, RESTOREFH, 
 use Rattle.rules.specs.Run.{State, noFile, fileOf, zeroId, errors, Config, Does, sets, shows, edits, does, editOf, effect, body, Event, failed, countedAfter, perform}
 use Rattle.rules.specs.Claim.{arrayEdit}
 use Rattle.rules.proofs.SlotByteLaws.{length-tab, getD-tab}
-use Rattle.rules.proofs.BoolLaws.{and-false}
+use Rattle.xdr.proofs.BoolLaws.{and-false}
 use Rattle.rules.proofs.SoundStore.{Sound, slot-in, slot-bytes}
 use Rattle.rules.proofs.EditForms.{write-is}
 use Rattle.rules.proofs.WriteLaws.{inside, write-edited, write-bytes, write-room}

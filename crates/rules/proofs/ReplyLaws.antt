@@ -2,11 +2,11 @@
 -- read back its status, its tag and each result.
 use Prim.Native.Nat.{ℕ, zero, suc, _+_, _*_, _^_, _≤_, _<_}
 use mathlib.Core.Path.{_≡_, refl, ap}
-use mathlib.Core.Bool.{not}
+use mathlib.Core.Bool.{true, not}
 use mathlib.Core.Option.{Option, none, some}
 use mathlib.Core.List.{List, [], _∷_, _++_}
 use native.Mathlib.Omega.{arith}
-use borrow.Author.Tests.{ltb-false}
+use borrow.Author.Tests.{ltb-false, lt-ltb, le-leb, eq-eqb}
 use lib.ListN.{length, length-append}
 use lib.Dec.{ltb, eqb}
 use Rattle.xdr.specs.Encode.{concatMap}
@@ -30,23 +30,21 @@ use Rattle.rules.proofs.ChainLaws.{Chain, nil, cons, reached-chain, ste
 
 -- ---- the layouts of a reply's head and of a result read back what they write
 
--- numbers of 32 bits, and a tag that is short
-abbrev pub HeadFits : ℕ × (List ℕ × ℕ) → Type 0
-HeadFits a = (a .0 < 2 ^ 32) × (((length (a .1 .0) ≤ 1024) × (length (a .1 .0) < 2 ^ 32)) × (a .1 .1 < 2 ^ 32))
+pub head-back : ReadsBack replyHead
+head-back = then-back uint (opaqueData 1024 then uint) uint-back (then-back (opaqueData 1024) uint (opaque-data-back 1024) uint-back)
 
-pub head-back : ReadsBack replyHead HeadFits
-head-back =
-    then-back uint (opaqueData 1024 then uint) (λ n. n < 2 ^ 32) (λ a. ((length (a .0) ≤ 1024) × (length (a .0) < 2 ^ 32)) × (a .1 < 2 ^ 32)) uint-back
-    (then-back (opaqueData 1024) uint (λ d. (length d ≤ 1024) × (length d < 2 ^ 32)) (λ n. n < 2 ^ 32) (opaque-data-back 1024) uint-back)
+-- numbers of 32 bits, and a tag that is short
+pub head-fits : (status : ℕ) (tag : List ℕ) (n : ℕ) → status < 2 ^ 32 → length tag ≤ 1024 → n < 2 ^ 32 → replyHead .fits (status, (tag, n)) ≡ true
+head-fits status tag n hs ht hn =
+    simp (lt-ltb status (2 ^ 32) hs, le-leb (length tag) 1024 ht, lt-ltb (length tag) (2 ^ 32) (omega arith), lt-ltb n (2 ^ 32) hn)
+
+pub result-back : (n : ℕ) → ReadsBack (resultLayout n)
+result-back n = then-back uint (uint then bytes n) uint-back (then-back uint (bytes n) uint-back (bytes-back n))
 
 -- numbers of 32 bits, and a body of n bytes
-abbrev pub ResultFits : ℕ → ℕ × (ℕ × List ℕ) → Type 0
-ResultFits n a = (a .0 < 2 ^ 32) × ((a .1 .0 < 2 ^ 32) × (length (a .1 .1) ≡ n))
-
-pub result-back : (n : ℕ) → ReadsBack (resultLayout n) (ResultFits n)
-result-back n =
-    then-back uint (uint then bytes n) (λ m. m < 2 ^ 32) (λ a. (a .0 < 2 ^ 32) × (length (a .1) ≡ n)) uint-back
-    (then-back uint (bytes n) (λ m. m < 2 ^ 32) (λ d. length d ≡ n) uint-back (bytes-back n))
+pub result-fits : (number status : ℕ) (body : List ℕ) → number < 2 ^ 32 → status < 2 ^ 32 → resultLayout (length body) .fits (number, (status, body)) ≡ true
+result-fits number status body hn hs =
+    simp (lt-ltb number (2 ^ 32) hn, lt-ltb status (2 ^ 32) hs, eq-eqb (length body) (length body) refl)
 
 -- at the start of a compound no handle is set
 none≢some : (f : ℕ) → _≡_ {A = Option ℕ} none (some f) → ⊥
@@ -132,7 +130,7 @@ module _ (g : Geometry) (bd : Good g) where
       let size : at + length (resultBytes z) + length (concatMap resultBytes zs) ≡ at + length (resultBytes z ++ concatMap resultBytes zs)
       = omega (arith, length-append (resultBytes z) (concatMap resultBytes zs)) in (
         at + length (resultBytes z),
-        result-back n (itemNumber (z .item), (z .status, z .body)) (omega (arith, k .number), (omega (arith, k .status), refl)) s at
+        result-back n (itemNumber (z .item), (z .status, z .body)) (result-fits (itemNumber (z .item)) (z .status) (z .body) (omega (arith, k .number)) (omega (arith, k .status))) s at
             (stands-first (resultBytes z) (concatMap resultBytes zs) w),
         rw (← size) rest,
       )
@@ -140,7 +138,7 @@ module _ (g : Geometry) (bd : Good g) where
 -- status, tag and number of results
 pub head-read : (s : List ℕ) (status : ℕ) (tag : List ℕ) (n : ℕ) → status ≤ 10090 → length tag ≤ 1024 → n ≤ 12 → Stands s 0 (replyHead .write (status, (tag, n)))
     → replyHead .read s 0 ≡ got (status, (tag, n)) (0 + length (replyHead .write (status, (tag, n))))
-head-read s status tag n hs ht hn w = head-back (status, (tag, n)) (omega arith, ((ht, omega arith), omega arith)) s 0 w
+head-read s status tag n hs ht hn w = head-back (status, (tag, n)) (head-fits status tag n (omega arith) ht (omega arith)) s 0 w
 
 -- the status of the last event
 pub last-status : (a : ℕ) (pre : List Event) (z : Event) → lastStatus a (pre ++ (z ∷ [])) ≡ z .status

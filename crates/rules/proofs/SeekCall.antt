@@ -6,18 +6,18 @@ use mathlib.Core.Option.{none, some}
 use mathlib.Core.List.{List, [], _∷_, append-nil}
 use native.Mathlib.Nat.{mod-eq-of-lt}
 use native.Mathlib.Omega.{arith}
-use borrow.Author.Tests.{lt-leb, le-ltb}
+use borrow.Author.Tests.{lt-leb, le-ltb, lt-ltb}
 use lib.ListN.{length, length-append}
 use lib.Dec.{eqb}
 use Rattle.xdr.specs.Encode.{u32}
 use Rattle.xdr.specs.Decode.{value}
-use Rattle.xdr.specs.Layout.{uint, boolean, hyper, _then_}
+use Rattle.xdr.specs.Layout.{every, uint, boolean, hyper, _then_}
 use Rattle.xdr.proofs.EncodeLaws.{length-u32, length-u64, length-opaque, value-be}
 use Rattle.xdr.proofs.RoundTrip.{Stands}
 use Rattle.xdr.proofs.LayoutLaws.{ReadsBack, uint-back, hyper-back, boolean-back, then-back}
 use Rattle.rules.specs.Store.{Store, sizeOf, sound}
 use Rattle.rules.specs.Read.{seekPlace}
-use Rattle.rules.specs.Operation.{Op, PUTFH, SEEK, opBytes, op, Header, headerLayout, requestBytes, seekResult, seekReply}
+use Rattle.rules.specs.Operation.{Op, PUTFH, SEEK, opBytes, opFits, op, Header, headerLayout, requestBytes, seekResult, seekReply}
 use Rattle.rules.specs.Run.{State, zeroId, errors, Config, does, effect, body, Event, perform, reached}
 use Rattle.rules.specs.Calls.{fresh, compound, resultLayout, resultBytes, lastStatus, lastStore, replyHead, replyBytes, Call, refusal, answer}
 use Rattle.rules.specs.Seek.{seekCall, SeekReplied, seekReplied, sought, WalkGiven}
@@ -27,22 +27,17 @@ use Rattle.rules.proofs.SoundLaws.{sound-facts}
 use Rattle.rules.proofs.OperationLaws.{perform-done}
 use Rattle.rules.proofs.ChainLaws.{reached-on}
 use Rattle.rules.proofs.SeekLaws.{seek-finds, seek-passes, seek-body}
-use Rattle.rules.proofs.ReplyLaws.{HeadFits, head-back, ResultFits, result-back}
-use Rattle.rules.proofs.RequestLaws.{putfh-back, seek-back, header-back, request-items}
+use Rattle.rules.proofs.ReplyLaws.{head-back, result-back}
+use Rattle.rules.proofs.RequestLaws.{header-back, request-items}
 use Rattle.rules.proofs.AnswerLaws.{Accepted, stands, store-is}
 
 -- ---- the reply that a client reads
 
-RepliedFits : SeekReplied → Type 0
-RepliedFits a = HeadFits (a .0) × (ResultFits 0 (a .1 .0) × ((a .1 .1 .0 < 2 ^ 32) × ((a .1 .1 .1 .0 < 2 ^ 32) × (Unit {0} × (a .1 .1 .1 .1 .1 < 2 ^ 64)))))
-
-replied-back : ReadsBack seekReplied RepliedFits
-unfolding RepliedFits
+replied-back : ReadsBack seekReplied
 replied-back =
-    then-back replyHead (resultLayout 0 then uint then uint then seekResult) HeadFits _ head-back
-    (then-back (resultLayout 0) (uint then uint then seekResult) (ResultFits 0) _ (result-back 0)
-    (then-back uint (uint then seekResult) (λ n. n < 2 ^ 32) _ uint-back
-    (then-back uint seekResult (λ n. n < 2 ^ 32) _ uint-back (then-back boolean hyper (λ b. Unit {0}) (λ n. n < 2 ^ 64) boolean-back hyper-back))))
+    then-back replyHead (resultLayout 0 then uint then uint then seekResult) head-back
+    (then-back (resultLayout 0) (uint then uint then seekResult) (result-back 0)
+    (then-back uint (uint then seekResult) uint-back (then-back uint seekResult uint-back (then-back boolean hyper boolean-back hyper-back))))
 
 -- ---- a call of the walk
 
@@ -128,11 +123,15 @@ module _ (c : Config) (buffer : List ℕ) (st : Store) (f : ℕ) (h : WalkGiven 
     abbrev both : List Event
     both = putDone behindPut ∷ seekDone behindSeek ∷ []
 
+    fit : every opFits ops ≡ true
+    fit =
+        rw (length-u32 f, lt-ltb off (2 ^ 64) (omega (arith, l, facts .fits f (h .file), file-small bd)), lt-ltb what (2 ^ 32) (omega (arith, what-most)))
+
     events-are : compound c st (call .request) head at ≡ both
     unfolding compound reached behindPut behindSeek
     events-are =
         ap (reached c (fresh st))
-        (request-items [] ops (putfh-back (u32 f) (omega (arith, length-u32 f)), (seek-back zeroId off what refl (omega (arith, l, facts .fits f (h .file), file-small bd)) (omega (arith, what-most)), tt)))
+        (request-items [] ops fit)
         ∙ reached-on c (fresh st) (PUTFH (u32 f)) behindPut (op (SEEK zeroId off what) behindSeek ∷ []) (putDone behindPut) (put-done behindPut) refl
         ∙ ap (λ zs. putDone behindPut ∷ zs) (reached-on c opened (SEEK zeroId off what) behindSeek [] (seekDone behindSeek) (seek-done behindSeek) refl)
 
@@ -158,11 +157,10 @@ module _ (c : Config) (buffer : List ℕ) (st : Store) (f : ℕ) (h : WalkGiven 
     reply-stands = subst (Stands (answer call st .reply) 0) (ap (λ zs. replyBytes (lastStatus 0 zs) [] zs) events-are ∙ bytes-are) (stands accepted)
 
     pub sought-is : sought (answer (seekCall c buffer f hole off) st .reply) ≡ some (eqb (seekPlace (c .geometry) st f hole off) (sizeOf st f), seekPlace (c .geometry) st f hole off)
-    unfolding RepliedFits
     sought-is =
         let finds = seek-finds (c .geometry) (block-pos bd) st f (facts .fits f (h .file)) hole off l in
         let small : place < 2 ^ 64 = omega (arith, finds .to, facts .fits f (h .file), file-small bd) in
-        let fits : RepliedFits replied = ((omega arith, ((omega arith, omega arith), omega arith)), ((omega arith, (omega arith, refl)), (omega arith, (omega arith, (tt, small))))) in
+        let fits : seekReplied .fits replied ≡ true = rw (lt-ltb place (2 ^ 64) small) in
         rw (replied-back replied fits (answer call st .reply) 0 reply-stands, sought)
 
     pub store-stays : answer (seekCall c buffer f hole off) st .store ≡ st

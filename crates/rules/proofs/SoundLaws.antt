@@ -13,7 +13,7 @@ use Rattle.rules.specs.Lists.{allTo, ceilDiv}
 use Rattle.rules.specs.Store.{Geometry, Store, sizeOf, wordOf, goodLengths, used, owed, byteAt, soundFile, sound}
 use Rattle.rules.proofs.GeometryLaws.{Lengths, lengths}
 use Rattle.rules.proofs.SoundStore.{div-lt, ceil-le, le-ceil, Sound}
-use Rattle.rules.proofs.BoolLaws.{and-left, and-right, and-both, or-inl, or-inr, or-second}
+use Rattle.xdr.proofs.BoolLaws.{and-left, and-right, and-both, or-inl, or-inr, or-second}
 
 pub allTo-at : (n : ℕ) (p : ℕ → Bool) → allTo n p ≡ true → (i : ℕ) → i < n → p i ≡ true
 allTo-at zero p h i l = absurd (not-suc-le-zero l)

@@ -16,7 +16,7 @@ use Rattle.rules.proofs.EditForms.{write-is}
 use Rattle.rules.proofs.PlanLaws.{InPool, SameR, each-sameR, own-sameR, plan-pool, own-reserved, own-alone}
 use Rattle.rules.proofs.SlotByteLaws.{view, own-local, Wrote, wrote}
 use Rattle.rules.proofs.SoundStore.{div-le, div-ge, div-lt, Sound, Edited, apart, in-file, other-words, slots-fit, plan-past, slot-in}
-use Rattle.rules.proofs.BoolLaws.{and-false}
+use Rattle.xdr.proofs.BoolLaws.{and-false}
 
 pub outside : (off end i : ℕ) → (i < off) ⊎ (end ≤ i) → within off end i ≡ false
 outside off end i (inl h) = rw (lt-leb off i h)

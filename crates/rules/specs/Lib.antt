@@ -12,3 +12,5 @@ pub mod Claim
 pub mod Place
 pub mod Seek
 pub mod Emptying
+pub mod Client
+pub mod Builder

@@ -112,28 +112,44 @@ cloneArgs = stateid then stateid then hyper then hyper then hyper
 abbrev pub copyArgs : Layout ((List ℕ × (List ℕ × (ℕ × (ℕ × ℕ)))) × (Bool × (Bool × ℕ)))
 copyArgs = cloneArgs then boolean then boolean then uint
 
--- ---- writing an operation: its number and its arguments' bytes
+-- ---- writing an operation
 
-abbrev pub wire : Op → ℕ × List ℕ
-wire (GETATTR ws) = (9, bitmapArgs .write ws)
-wire GETFH = (10, [])
-wire (PUTFH h) = (22, handleArgs .write h)
-wire (READ i o n) = (25, readArgs .write (i, (o, n)))
-wire RESTOREFH = (31, [])
-wire SAVEFH = (32, [])
-wire (WRITE i o s d) = (38, writeArgs .write (i, (o, (s, d))))
-wire (ALLOCATE i o n) = (59, regionArgs .write (i, (o, n)))
-wire (COPY i j s o n c y) = (60, copyArgs .write ((i, (j, (s, (o, n)))), (c, (y, 0))))
-wire (DEALLOCATE i o n) = (62, regionArgs .write (i, (o, n)))
-wire (READ-PLUS i o n) = (68, readArgs .write (i, (o, n)))
-wire (SEEK i o n) = (69, readArgs .write (i, (o, n)))
-wire (CLONE i j s o n) = (71, cloneArgs .write (i, (j, (s, (o, n)))))
+-- arguments as bytes, and whether their layout has them
+pub record Args : Type 0 where
+  pub bytes : List ℕ
+  pub fit : Bool
+
+abbrev pub args : {A : Type 0} → Layout A → A → Args
+args l a = record { bytes = l .write a; fit = l .fits a }
+
+abbrev pub noArgs : Args
+noArgs = record { bytes = []; fit = true }
+
+-- its number and its arguments
+abbrev pub wire : Op → ℕ × Args
+wire (GETATTR ws) = (9, args bitmapArgs ws)
+wire GETFH = (10, noArgs)
+wire (PUTFH h) = (22, args handleArgs h)
+wire (READ i o n) = (25, args readArgs (i, (o, n)))
+wire RESTOREFH = (31, noArgs)
+wire SAVEFH = (32, noArgs)
+wire (WRITE i o s d) = (38, args writeArgs (i, (o, (s, d))))
+wire (ALLOCATE i o n) = (59, args regionArgs (i, (o, n)))
+wire (COPY i j s o n c y) = (60, args copyArgs ((i, (j, (s, (o, n)))), (c, (y, 0))))
+wire (DEALLOCATE i o n) = (62, args regionArgs (i, (o, n)))
+wire (READ-PLUS i o n) = (68, args readArgs (i, (o, n)))
+wire (SEEK i o n) = (69, args readArgs (i, (o, n)))
+wire (CLONE i j s o n) = (71, args cloneArgs (i, (j, (s, (o, n)))))
 
 abbrev pub opNumber : Op → ℕ
 opNumber o = wire o .0
 
 abbrev pub opBytes : Op → List ℕ
-opBytes o = u32 (opNumber o) ++ wire o .1
+opBytes o = u32 (opNumber o) ++ wire o .1 .bytes
+
+-- its arguments can be written
+abbrev pub opFits : Op → Bool
+opFits o = wire o .1 .fit
 
 -- ---- reading an operation
 
@@ -151,8 +167,8 @@ cloneOf (i, (j, (s, (o, n)))) = CLONE i j s o n
 abbrev pub copyOf : (List ℕ × (List ℕ × (ℕ × (ℕ × ℕ)))) × (Bool × (Bool × ℕ)) → Option Op
 copyOf ((i, (j, (s, (o, n)))), (c, (y, servers))) = cond (eqb servers 0) (some (COPY i j s o n c y)) none
 
--- how arguments of layout l are read
-abbrev pub reading : {A : Type 0} → Layout A → (A → Option Op) → Reader (Option Op)
+-- what f makes of a value of layout l, read
+abbrev pub reading : {A B : Type 0} → Layout A → (A → B) → Reader B
 reading l f = do
   a ← l .read
   ret (f a)
@@ -174,8 +190,8 @@ readers =
     ∷ (69, reading readArgs (λ a. some (three SEEK a)))
     ∷ (71, reading cloneArgs (λ a. some (cloneOf a))) ∷ []
 
--- how the arguments of operation n are read, if it is one of them
-abbrev pub find : ℕ → List (ℕ × Reader (Option Op)) → Option (Reader (Option Op))
+-- what stands in the table under number n, if it has one
+abbrev pub find : {B : Type 0} → ℕ → List (ℕ × B) → Option B
 find n [] = none
 find n (r ∷ rs) = cond (eqb n (r .0)) (some (r .1)) (find n rs)
 
@@ -238,6 +254,9 @@ requestBytes tag os = headerLayout .write (tag, (2, length os)) ++ concatMap opB
 
 -- ---- the layouts of results
 
+abbrev pub handleResult : Layout (List ℕ)
+handleResult = opaqueData 128
+
 -- the bitmap of the attributes shown, and their values
 abbrev pub attrResult : Layout (List ℕ × List ℕ)
 attrResult = uints anyLength then opaqueData anyLength
@@ -261,13 +280,13 @@ holePiece = uint then hyper then hyper
 abbrev pub seekResult : Layout (Bool × ℕ)
 seekResult = boolean then hyper
 
--- count, committed, verifier
+-- count, committed (a stable_how), verifier
 abbrev pub writeResult : Layout (ℕ × (ℕ × List ℕ))
-writeResult = uint then uint then bytes 8
+writeResult = uint then upToLimit 2 then bytes 8
 
--- the number of callback ids, count, committed, verifier, consecutive, synchronous
+-- the number of callback ids, which is 0; count, committed, verifier, consecutive, synchronous
 abbrev pub copyResult : Layout (ℕ × (ℕ × (ℕ × (List ℕ × (Bool × Bool)))))
-copyResult = uint then hyper then uint then bytes 8 then boolean then boolean
+copyResult = upToLimit 0 then hyper then upToLimit 2 then bytes 8 then boolean then boolean
 
 -- ---- the bodies of results
 

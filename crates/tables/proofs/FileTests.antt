@@ -15,7 +15,7 @@ use Rattle.rules.specs.Lists.{allTo, ceilDiv}
 use Rattle.rules.specs.Store.{Geometry, Store, sizeOf, wordOf, slotByte, byteAt, soundFile}
 use Rattle.tables.specs.Tables.{FileKnown}
 use Rattle.rules.proofs.GeometryLaws.{Good, good, block-pos, file-most, lengths}
-use Rattle.rules.proofs.BoolLaws.{and-both, and-false, or-inl}
+use Rattle.xdr.proofs.BoolLaws.{and-both, and-false, or-inl}
 use Rattle.rules.proofs.SoundStore.{ceil-le, le-ceil}
 use Rattle.rules.proofs.SoundLaws.{allTo-at, allTo-all}
 

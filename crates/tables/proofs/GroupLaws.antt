@@ -11,7 +11,7 @@ use lib.Seq.{getD-take, getD-drop, length-take-le}
 use lib.Dec.{leb, eqb}
 use Rattle.rules.specs.Lists.{allTo}
 use Rattle.tables.specs.Groups.{groupAt, groupAll}
-use Rattle.rules.proofs.BoolLaws.{and-left, and-right}
+use Rattle.xdr.proofs.BoolLaws.{and-left, and-right}
 use Rattle.rules.proofs.SoundLaws.{allTo-at}
 
 allTo-ext : (n : ℕ) (p q : ℕ → Bool) → ((i : ℕ) → i < n → p i ≡ q i) → allTo n p ≡ allTo n q

@@ -17,7 +17,7 @@ use Rattle.rules.specs.Calls.{storeRefusal, slotRefusals, slotRefusal, slotView
 use Rattle.tables.specs.Lent.{Lent}
 use Rattle.tables.specs.Tables.{Shaped}
 use Rattle.tables.specs.View.{PlacePromise, ViewPromise}
-use Rattle.rules.proofs.BoolLaws.{and-left, and-right, not-is}
+use Rattle.xdr.proofs.BoolLaws.{and-left, and-right, not-is}
 use Rattle.rules.proofs.FirstLaws.{all-clear}
 use Rattle.rules.proofs.SoundLaws.{sound-facts}
 use Rattle.rules.proofs.GeometryLaws.{good, block-pos}

@@ -20,7 +20,7 @@ use Rattle.tables.specs.declared.groups.Sort.{Sort}
 use Rattle.tables.specs.Groups.{ofSort, groupAll}
 use Rattle.rules.proofs.CountLaws.{sumTo-ext, count-drop}
 use Rattle.rules.proofs.NeedLaws.{lowestFree-free, scan-ends, used-to}
-use Rattle.rules.proofs.BoolLaws.{and-false}
+use Rattle.xdr.proofs.BoolLaws.{and-false}
 use Rattle.rules.proofs.SoundLaws.{allTo-at}
 use Rattle.rules.proofs.PlanLaws.{InPool}
 use Rattle.tables.proofs.GroupLaws.{group-inside, group-each}

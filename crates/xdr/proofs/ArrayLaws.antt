@@ -1,22 +1,26 @@
 -- Laws on arrays of numbers: written one number after the other, read as bytes in fours.
 use Prim.Native.Nat.{ℕ, zero, suc, _+_, _*_, _/_, _^_, _≤_, _<_}
 use mathlib.Core.Path.{_≡_, refl, sym, ap, _∙_}
+use mathlib.Core.Bool.{true, _&&_}
 use mathlib.Core.List.{List, [], _∷_, _++_, append-assoc, append-nil}
 use native.Mathlib.Nat.{mod-eq-of-lt}
 use native.Mathlib.Numerals.{add-one}
 use native.Mathlib.Decide.{decLe}
 use native.Mathlib.Omega.{arith}
+use borrow.Author.Tests.{ltb-true}
 use lib.ListN.{length, getD, take, drop, List·getD-eq-default}
+use lib.Dec.{leb}
 use lib.Seq.{take-suc, take-all, take-at, drop-at, drop-drop}
 use Rattle.xdr.specs.Bytes.{partOf, Written}
 use Rattle.xdr.specs.Encode.{u32, concatMap, array}
 use Rattle.xdr.specs.Decode.{Parsed, got, fault, value, number, fours, numbers, arrayAt, arrayUpTo}
-use Rattle.xdr.specs.Layout.{uints}
+use Rattle.xdr.specs.Layout.{every, isWord, uints}
+use Rattle.xdr.proofs.BoolLaws.{and-left, and-right}
 use Rattle.xdr.proofs.EncodeLaws.{length-u32, value-be, numbers-length, length-array}
 use Rattle.xdr.proofs.BytesLaws.{written-then}
 use Rattle.xdr.proofs.DecodeLaws.{there, missing, number-there, number-missing, array-numbers}
 use Rattle.xdr.proofs.RoundTrip.{Stands, stands-first, stands-rest, stands-within, bounded-back}
-use Rattle.xdr.proofs.LayoutLaws.{ReadsBack}
+use Rattle.xdr.proofs.LayoutLaws.{ReadsBack, at-most, is-word}
 
 -- ---- written
 
@@ -88,15 +92,22 @@ numbers-back ns h =
     let k : length (concatMap u32 ns) / 4 ≡ length ns = omega (arith, numbers-length ns) in
     ap (λ (n : ℕ). fours n (concatMap u32 ns)) k ∙ fours-back ns h
 
-pub uints-back : (limit : ℕ) → ReadsBack (uints limit) (λ ns. (length ns ≤ limit) × ((length ns < 2 ^ 32) × ((i : ℕ) → getD ns i 0 < 2 ^ 32)))
+-- each of them is a number of 32 bits
+every-word : (ns : List ℕ) → every isWord ns ≡ true → (i : ℕ) → getD ns i 0 < 2 ^ 32
+every-word [] h i = omega arith
+every-word (n ∷ ns) h zero = ltb-true n (2 ^ 32) (and-left (isWord n) (every isWord ns) h)
+every-word (n ∷ ns) h (suc i) = every-word ns (and-right (isWord n) (every isWord ns) h) i
+
+pub uints-back : (limit : ℕ) → ReadsBack (uints limit)
 unfolding array arrayUpTo partOf
 uints-back limit ns h s at w =
     let n = length ns in
+    let sized = and-left (leb n limit && isWord n) (every isWord ns) h in
     let body = concatMap u32 ns in
     let behind : Stands s (at + 4) body = rw (length-u32 n) at (stands-rest (u32 n) body w) in
     let size : at + 4 + 4 * n ≤ length s = omega (arith, stands-within behind, numbers-length ns) in
     let found : arrayAt limit s at ≡ got (record { start = at + 4; len = 4 * n }) (at + 4 + 4 * n)
-    = array-numbers limit s at n (at + 4) (bounded-back limit n s at (stands-first (u32 n) body w) (h .1 .0) (h .0)) ∙ there (4 * n) s (at + 4) size in
+    = array-numbers limit s at n (at + 4) (bounded-back limit n s at (stands-first (u32 n) body w) (is-word n limit sized) (at-most n limit sized)) ∙ there (4 * n) s (at + 4) size in
     let bytes : take (4 * n) (drop (at + 4) s) ≡ body = ap (take (4 * n)) (behind .there) ∙ take-at body (behind .rest) (4 * n) (numbers-length ns) in
     let end : at + 4 + 4 * n ≡ at + length (array ns) = omega (arith, length-array ns) in
-    rw (found, bytes, numbers-back ns (h .1 .1)) (ap (got ns) end)
+    rw (found, bytes, numbers-back ns (every-word ns (and-right (leb n limit && isWord n) (every isWord ns) h))) (ap (got ns) end)

@@ -1,3 +1,4 @@
+pub mod BoolLaws
 pub mod BytesLaws
 pub mod EncodeLaws
 pub mod DecodeLaws

@@ -104,3 +104,10 @@ unfoldable pub arrayUpTo : ℕ → Reader (List ℕ)
 arrayUpTo limit = do
   bs ← bytesOf (arrayAt limit)
   ret (numbers bs)
+
+-- ---- lists
+
+-- n values, one after the other
+unfoldable pub times : {A : Type 0} → ℕ → Reader A → Reader (List A)
+times zero r s at = got [] at
+times (suc n) r s at = andThen (r s at) (λ a next. andThen (times n r s next) (λ rest end. got (a ∷ rest) end))

@@ -3,7 +3,7 @@ use mathlib.Core.Path.{sym, _∙_}
 use native.Mathlib.Omega.{arith}
 use borrow.Author.Tests.{eq-eqb, ne-eqb}
 use borrow.Author.Needs.{needs}
-use Rattle.rules.proofs.BoolLaws.{and-false}
+use Rattle.xdr.proofs.BoolLaws.{and-false}
 use Rattle.tables.proofs.tally.owes_block.Statement.{statement}
 use Rattle.tables.proofs.tally.owes_block.Tie as tie
 

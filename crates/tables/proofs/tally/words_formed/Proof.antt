@@ -8,7 +8,7 @@ use lib.Dec.{leb}
 use borrow.Author.Needs.{needs}
 use borrow.Author.Tests.{le-leb, lt-leb}
 use Rattle.rules.specs.Lists.{allTo}
-use Rattle.rules.proofs.BoolLaws.{and-both}
+use Rattle.xdr.proofs.BoolLaws.{and-both}
 use Rattle.tables.proofs.TallyLaws.{allTo-fails}
 use Rattle.tables.proofs.tally.words_formed.Statement.{statement}
 use Rattle.tables.proofs.tally.words_formed.Tie as tie

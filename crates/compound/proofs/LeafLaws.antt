@@ -101,26 +101,6 @@ module _ (g : Geometry) (st : Store) (e from to n size : ℕ) (same : getD (st .
 
 -- ---- stateids
 
-pub lengths-differ : (a b : List ℕ) → (length a ≡ length b → ⊥) → false ≡ sameBytes a b
-lengths-differ [] [] h = absurd (h refl)
-lengths-differ [] (y ∷ b) h = refl
-lengths-differ (x ∷ a) [] h = refl
-lengths-differ (x ∷ a) (y ∷ b) h = go (eqb x y) (lengths-differ a b (λ e. h (ap suc e)))
-  where
-    go : (t : Bool) → false ≡ sameBytes a b → false ≡ t && sameBytes a b
-    go true e = e
-    go false e = refl
-
-module _ (a b : List ℕ) (i : ℕ) (h : i < length a) (k : i < length b) where
-  pub same-more : getD a i 0 ≡ getD b i 0 → sameBytes (drop i a) (drop i b) ≡ sameBytes (drop (i + 1) a) (drop (i + 1) b)
-  same-more e = rw (add-one i, drop-cons a i 0 h, drop-cons b i 0 k, eq-eqb (getD a i 0) (getD b i 0) e)
-
-  pub same-stop : (getD a i 0 ≡ getD b i 0 → ⊥) → sameBytes (drop i a) (drop i b) ≡ false
-  same-stop e = rw (drop-cons a i 0 h, drop-cons b i 0 k, ne-eqb (getD a i 0) (getD b i 0) e)
-
-pub same-end : (a b : List ℕ) (i : ℕ) → length a ≤ i → length b ≤ i → sameBytes (drop i a) (drop i b) ≡ true
-same-end a b i h k = rw (drop-of-length-le a h, drop-of-length-le b k)
-
 pub passes-zero : (i : List ℕ) {t : Bool} → t ≡ zeroStateid i → t ≡ true → true ≡ readStateid i
 passes-zero i e h = rw (sym e ∙ h)
 

@@ -6,7 +6,7 @@ ghost use lib.ListN.{length};
 ghost use Rattle.tables.specs.Lent.{geometryOf, after, before, tables};
 ghost use Rattle.tables.specs.Tables.{TableTrue};
 ghost use Rattle.rules.specs.Store.{Store};
-ghost use Rattle.rules.specs.Operation.{bad, items, opNumber};
+ghost use Rattle.rules.specs.Operation.{bad, items};
 ghost use Rattle.rules.specs.Fault.{NOWHERE, faultAt};
 ghost use Rattle.rules.specs.Run.{failed, perform, reached};
 ghost use Rattle.rules.specs.Calls.{fresh};
@@ -62,26 +62,6 @@ impl Progress {
     }
 }
 
-fn number(o: Operation) -> u32
-    ensures { λ r. ⌜ ((s : List ℕ) → r ≡ opNumber (meaning s o)) ⌝ }
-{
-    match o {
-        Operation::GetAttr(_) => Operation::GETATTR,
-        Operation::GetFh => Operation::GETFH,
-        Operation::PutFh(_) => Operation::PUTFH,
-        Operation::Read(_) => Operation::READ,
-        Operation::RestoreFh => Operation::RESTOREFH,
-        Operation::SaveFh => Operation::SAVEFH,
-        Operation::Write(_) => Operation::WRITE,
-        Operation::Allocate(_) => Operation::ALLOCATE,
-        Operation::Copy(_) => Operation::COPY,
-        Operation::Deallocate(_) => Operation::DEALLOCATE,
-        Operation::ReadPlus(_) => Operation::READ_PLUS,
-        Operation::Seek(_) => Operation::SEEK,
-        Operation::Clone(_) => Operation::CLONE,
-    }
-}
-
 // One operation, run and answered: its errors, what it does, its result.
 fn operation(
     c: Config,
@@ -100,7 +80,7 @@ fn operation(
         r (after sizes words mem) (now (counts .exit)) (p .at) (now (reply .entry)) (now (reply .exit))) ⌝ }
 {
     let g = c.geometry;
-    let k = number(o);
+    let k = o.number();
     let e = error(g, sizes, s, o, p);
     if e != Answer::OK {
         return without_body(k, e, p, reply);

@@ -150,7 +150,7 @@ module _ {c : Call} {st : Store} {h : Header} {at : ℕ} (a : Accepted c st h at
   tests : Passed c st
   tests = passed (a .passes)
 
-  tag-short : length (h .tag) ≤ 1024
+  pub tag-short : length (h .tag) ≤ 1024
   tag-short = rw (a .decoded) at (header-reads (c .request) 0)
 
   pub accepted-chain : Chain (c .config .geometry) (fresh st) zs
@@ -159,11 +159,11 @@ module _ {c : Call} {st : Store} {h : Header} {at : ℕ} (a : Accepted c st h at
   pub reply-short : length reply ≤ 27184
   reply-short = reply-most (c .config .geometry) (tests .bounds) status (h .tag) accepted-chain (compound-few (c .config) st (c .request) h at .most) tag-short
 
-  buffer-is : answer c st .reply ≡ reply ++ drop (length reply) (c .buffer)
+  pub buffer-is : answer c st .reply ≡ reply ++ drop (length reply) (c .buffer)
   unfolding served
   buffer-is = ap (λ o. o .reply) answer-is
 
-  written-is : answer c st .written ≡ length reply
+  pub written-is : answer c st .written ≡ length reply
   unfolding served
   written-is = ap (λ o. o .written) answer-is
 

@@ -1,15 +1,19 @@
 -- The bitmap of a result has no trailing zero word; how long it and the values are.
-use Prim.Native.Nat.{ℕ, suc, _/_, _%_, _≤_}
+use Prim.Native.Nat.{ℕ, zero, suc, _/_, _%_, _^_, _≤_, _<_}
 use mathlib.Core.Path.{_≡_, refl, sym, _∙_}
 use mathlib.Core.Bool.{Bool, true, false, cond}
 use mathlib.Core.List.{List, [], _∷_}
 use native.Mathlib.Nat.{zero-add, one-le-pow}
 use native.Mathlib.Decide.{decLe}
 use native.Mathlib.Omega.{arith}
-use borrow.Author.Tests.{eq-eqb}
+use borrow.Author.Tests.{eq-eqb, lt-ltb}
 use lib.ListN.{length, getD, length-append}
+use lib.Dec.{eqb}
 use Rattle.xdr.specs.Encode.{concatMap, array}
+use Rattle.xdr.specs.Layout.{every, isWord}
+use Rattle.xdr.proofs.BoolLaws.{and-both}
 use Rattle.xdr.proofs.EncodeLaws.{length-u32, length-u64, length-array}
+use Rattle.rules.specs.Lists.{tabulate}
 use Rattle.rules.specs.Attributes.{Attr, attrNumber, supported, select, bitmapWord, bitmapLength, bitmap, FileAttrs, attrValue}
 use Rattle.rules.proofs.SlotByteLaws.{length-tab, getD-tab}
 
@@ -65,3 +69,30 @@ pub values-most : (v : FileAttrs) (p : Attr → Bool) → length (concatMap (att
 values-most v p =
     let all : length (concatMap (attrValue v) supported) ≡ 44 = simp (length-append, length-array, length-u64, length-u32) refl in
     rw all at (selected-bytes (attrValue v) p supported)
+
+-- ---- words of 32 bits
+
+cond-most : (t : Bool) (n : ℕ) → cond t n 0 ≤ n
+cond-most true n = omega arith
+cond-most false n = omega arith
+
+selected-word : (p : Attr → Bool) (xs : List Attr) (i : ℕ) → bitmapWord (select p xs) i ≤ bitmapWord xs i
+selected-word p [] i = omega arith
+selected-word p (x ∷ xs) i = go (p x) (selected-word p xs i)
+  where
+    go : (t : Bool) → bitmapWord (select p xs) i ≤ bitmapWord xs i → bitmapWord (cond t (x ∷ select p xs) (select p xs)) i ≤ bitmapWord (x ∷ xs) i
+    go true h = omega arith
+    go false h = omega arith
+
+-- the bits of all that we have, in one word
+supported-word : (i : ℕ) → bitmapWord supported i ≤ 40977
+supported-word i =
+    omega (arith, cond-most (eqb 0 i) 1, cond-most (eqb 0 i) 16, cond-most (eqb 1 i) 8192, cond-most (eqb 2 i) 8192, cond-most (eqb 2 i) 16384)
+
+every-word : (f : ℕ → ℕ) → ((i : ℕ) → f i < 2 ^ 32) → (n i : ℕ) → every isWord (tabulate f i n) ≡ true
+every-word f h zero i = refl
+every-word f h (suc n) i = and-both (isWord (f i)) (every isWord (tabulate f (suc i) n)) (lt-ltb (f i) (2 ^ 32) (h i)) (every-word f h n (suc i))
+
+pub bitmap-words : (p : Attr → Bool) → every isWord (bitmap (select p supported)) ≡ true
+bitmap-words p =
+    every-word (bitmapWord (select p supported)) (λ i. omega (arith, selected-word p supported i, supported-word i)) (bitmapLength (select p supported)) 0

@@ -86,9 +86,20 @@ module _ (g : Geometry) (pos : 0 < g .B) (st : Store) (f : ℕ) where
   read-most off n =
       simp (length-append, length-bool) (omega (arith, opaque-most (bytesFrom g st f off (readCount st f off n)) 2048 (rw (length-tab (byteAt g st f) (readCount st f off n) off) (omega arith)) refl))
 
+  -- at most five pieces
+  pub pieces-most : 512 ≤ g .B → (off n : ℕ) → length (readPieces g st f off n) ≤ 5
+  pieces-most wide off n = go (decLt off end)
+    where
+      end : ℕ
+      end = min (off + granted n) (sizeOf st f)
+
+      go : Dec (off < end) → length (readPieces g st f off n) ≤ 5
+      go (yes l) = omega (arith, pieces-few end (suc (g .S)) off l, div-le pos (end - 1) (off / g .B + 4) (omega (arith, div-ge pos off (off / g .B) (le-refl _))))
+      go (no d) = omega (arith, ap length (pieces-none g st f end (suc (g .S)) off (omega (arith, d))))
+
   pub read-plus-most : 512 ≤ g .B → sizeOf st f ≤ g .S * g .B → (off n : ℕ) → length (readPlusReply g st f off n) ≤ 2171
   unfolding readPlusReply
-  read-plus-most wide fits off n = simp (length-append, length-bool, length-u32) (omega (arith, all-most ps, few, total))
+  read-plus-most wide fits off n = simp (length-append, length-bool, length-u32) (omega (arith, all-most ps, pieces-most wide off n, total))
     where
       end : ℕ
       end = min (off + granted n) (sizeOf st f)
@@ -98,13 +109,6 @@ module _ (g : Geometry) (pos : 0 < g .B) (st : Store) (f : ℕ) where
 
       total : length (concatMap (laid g st f) ps) ≤ 2048
       total = rw (read-plus-laid g pos st f off end (omega arith)) (rw length-tab (omega arith))
-
-      few : length ps ≤ 5
-      few = go (decLt off end)
-        where
-          go : Dec (off < end) → length ps ≤ 5
-          go (yes l) = omega (arith, pieces-few end (suc (g .S)) off l, div-le pos (end - 1) (off / g .B + 4) (omega (arith, div-ge pos off (off / g .B) (le-refl _))))
-          go (no d) = omega (arith, ap length (pieces-none g st f end (suc (g .S)) off (omega (arith, d))))
 
 -- ---- SEEK, WRITE and COPY
 

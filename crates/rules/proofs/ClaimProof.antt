@@ -200,7 +200,7 @@ gives-is want o k = λ i. record {
   store = record { sizes = k .sizes i; words = k .words i; mem = k .mem i };
 }
 
-no-events : {c : Call} {st : Store} {k : ℕ} → Refusal c st k → events serving c st ≡ []
+pub no-events : {c : Call} {st : Store} {k : ℕ} → Refusal c st k → events serving c st ≡ []
 unfolding events
 no-events r = rw (refused-call r .nothing-run, events)
 
@@ -238,7 +238,7 @@ call-says c st r e = go (accepted-or-refused c st)
     go (inl a) = subst (λ y. Says (c .buffer) y (answer c st)) (some-ran _ r (sym (ran-is (a .2)) ∙ e)) (accepted-says (a .2))
     go (inr k) = absurd (none-ran r (sym (refused-call (k .1) .nothing-run) ∙ e))
 
-serving-fulfils : Fulfils serving
+pub serving-fulfils : Fulfils serving
 serving-fulfils = record {
   is = λ c st o k. gives-is (answer c st) o k;
   sound = tables-sound;

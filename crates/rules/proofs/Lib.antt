@@ -24,11 +24,14 @@ pub mod NeedLaws
 pub mod OperationLaws
 pub mod PieceLaws
 pub mod PlaceProof
+pub mod BuilderProof
+pub mod ReadBackLaws
 pub mod PlanLaws
 pub mod Points
 pub mod ReadLaws
 pub mod ReplyLaws
 pub mod RequestLaws
+pub mod ResultLaws
 pub mod Script
 pub mod SeekCall
 pub mod SeekLaws

@@ -94,14 +94,14 @@ items-back [] h s at w = refl
 items-back (o ∷ os) h s at w =
     rw (op-back o (and-left (opFits o) (every opFits os) h) s at (stands-first (opBytes o) (concatMap opBytes os) w), items)
     (ap (λ is. op o (at + length (opBytes o)) ∷ is)
-      (items-back os (and-right (opFits o) (every opFits os) h) s (at + length (opBytes o)) (stands-rest (opBytes o) (concatMap opBytes os) w)))
+    (items-back os (and-right (opFits o) (every opFits os) h) s (at + length (opBytes o)) (stands-rest (opBytes o) (concatMap opBytes os) w)))
 
 -- ---- a request
 
 abbrev headerBytes : List ℕ → List Op → List ℕ
 headerBytes tag os = headerLayout .write (tag, (2, length os))
 
-stands-all : (bs : List ℕ) → Stands bs 0 bs
+pub stands-all : (bs : List ℕ) → Stands bs 0 bs
 stands-all bs = record { rest = []; inside = omega arith; there = sym (append-nil bs) }
 
 request-stands : (tag : List ℕ) (os : List Op) → Stands (requestBytes tag os) 0 (headerBytes tag os ++ concatMap opBytes os)

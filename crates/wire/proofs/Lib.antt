@@ -1,3 +1,4 @@
 pub mod RequestLaws
 pub mod FieldLaws
 pub mod AttrLaws
+pub mod SameLaws

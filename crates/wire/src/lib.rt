@@ -1,5 +1,6 @@
 // Operations and results as bytes: the decoded operation, the readers of a request, the layouts of results. It knows no store.
 mod attrs;
+mod bytes;
 mod decode;
 mod operation;
 mod result;
@@ -8,6 +9,7 @@ pub use attrs::Asked;
 pub use attrs::FileAttrs;
 pub use attrs::asked_in;
 pub use attrs::put_attrs;
+pub use bytes::same_bytes;
 pub use decode::HeaderRead;
 pub use decode::header;
 pub use decode::item;

@@ -1,4 +1,9 @@
 // A decoded request: its header, and an operation. The tag, stateids, handles and data stay where they are, as spans.
+ghost use mathlib.Core.Path.{_≡_};
+ghost use mathlib.Core.List.{List};
+ghost use Prim.Native.Nat.{ℕ};
+ghost use Rattle.rules.specs.Operation.{opNumber};
+ghost use Rattle.wire.specs.Decoded.{meaning};
 use xdr::Cursor;
 use xdr::Span;
 
@@ -126,6 +131,26 @@ impl Operation {
     pub const OP_ILLEGAL: u32 = 10044;
 
     pub const SEQUENCE_POS: u32 = 10064;
+
+    pub fn number(self) -> u32
+        ensures { λ r. ⌜ ((s : List ℕ) → r ≡ opNumber (meaning s self)) ⌝ }
+    {
+        match self {
+            Operation::GetAttr(_) => Operation::GETATTR,
+            Operation::GetFh => Operation::GETFH,
+            Operation::PutFh(_) => Operation::PUTFH,
+            Operation::Read(_) => Operation::READ,
+            Operation::RestoreFh => Operation::RESTOREFH,
+            Operation::SaveFh => Operation::SAVEFH,
+            Operation::Write(_) => Operation::WRITE,
+            Operation::Allocate(_) => Operation::ALLOCATE,
+            Operation::Copy(_) => Operation::COPY,
+            Operation::Deallocate(_) => Operation::DEALLOCATE,
+            Operation::ReadPlus(_) => Operation::READ_PLUS,
+            Operation::Seek(_) => Operation::SEEK,
+            Operation::Clone(_) => Operation::CLONE,
+        }
+    }
 }
 
 // What stands at a place of the request: an operation and the place after it; or the number and the status of the result that

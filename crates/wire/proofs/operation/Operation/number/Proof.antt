@@ -1,6 +1,6 @@
 use borrow.Author.Needs.{needs}
-use Rattle.compound.proofs.run.number.Statement.{statement}
-use Rattle.compound.proofs.run.number.Tie as tie
+use Rattle.wire.proofs.operation.Operation.number.Statement.{statement}
+use Rattle.wire.proofs.operation.Operation.number.Tie as tie
 
 returns : tie.Need-returns
 returns c = λ s. rw (c .enum-told .given .1)

@@ -3,9 +3,9 @@ use mathlib.Core.Path.{_≡_, refl, sym, _∙_}
 use native.Mathlib.Omega.{arith}
 use lib.ListN.{length, drop}
 use Rattle.rules.specs.Run.{sameBytes}
-use Rattle.compound.proofs.LeafLaws.{lengths-differ, same-more, same-stop, same-end}
-use Rattle.compound.proofs.stateid.same_bytes.Statement.{statement}
-use Rattle.compound.proofs.stateid.same_bytes.Tie as tie
+use Rattle.wire.proofs.SameLaws.{lengths-differ, same-more, same-stop, same-end}
+use Rattle.wire.proofs.bytes.same_bytes.Statement.{statement}
+use Rattle.wire.proofs.bytes.same_bytes.Tie as tie
 
 -- the bytes that are left decide
 abbrev Inv-loop : tie.InvT-loop

@@ -209,12 +209,12 @@ module _ (x : List ℕ × (List ℕ × (ℕ × (ℕ × ℕ)))) (c y : Bool) (n :
 
 -- ---- a number that we don't serve
 
--- n is the number of none of these readers; `before` is what is known already
-abbrev pub NoneOf : ℕ → Type 0 → List (ℕ × Reader (Option Op)) → Type 0
+-- n is the number of none of a table's rows; `before` is what is known already
+abbrev pub NoneOf : {B : Type 0} → ℕ → Type 0 → List (ℕ × B) → Type 0
 NoneOf n before [] = before
 NoneOf n before (r ∷ rs) = NoneOf n (before × (n ≡ r .0 → ⊥)) rs
 
-none-found : (n : ℕ) (before : Type 0) (rs : List (ℕ × Reader (Option Op))) → NoneOf n before rs → before × (find n rs ≡ none)
+pub none-found : {B : Type 0} (n : ℕ) (before : Type 0) (rs : List (ℕ × B)) → NoneOf n before rs → before × (find n rs ≡ none)
 none-found n before [] h = (h, refl)
 none-found n before (r ∷ rs) h =
     let t = none-found n (before × (n ≡ r .0 → ⊥)) rs h in

@@ -3,3 +3,5 @@ pub mod RequestLaws
 pub mod ReadLaws
 pub mod OpenLaws
 pub mod RecordLaws
+pub mod HeldReply
+pub mod PassedOn

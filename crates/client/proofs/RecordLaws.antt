@@ -13,6 +13,7 @@ use lib.Seq.{take-suc-set}
 use Rattle.xdr.specs.declared.read.Cursor.{Cursor}
 use Rattle.xdr.specs.Layout.{isWord}
 use Rattle.rules.specs.Operation.{Op, find}
+use Rattle.rules.specs.Client.{pieceLayout, step}
 use Rattle.wire.specs.declared.operation.Operation.{Operation}
 use Rattle.wire.specs.declared.operation.ReadArgs.{ReadArgs}
 use Rattle.wire.specs.Decoded.{meaning}
@@ -21,7 +22,10 @@ use Rattle.client.specs.declared.records.OpRecord.{OpRecord}
 use Rattle.client.specs.declared.reply.Body.{Body}
 use Rattle.client.specs.declared.reply.OpResult.{OpResult}
 use Rattle.client.specs.declared.reply.Step.{Step}
-use Rattle.client.specs.Records.{recordAt, ifWord, cloneIn, recordRows, recordOp, recordOps, givenRecords, bodyNumbers, stepNumbers}
+use Rattle.client.specs.declared.reply.PieceRead.{PieceRead}
+use Rattle.client.specs.declared.open.Opened.{Opened}
+use Rattle.client.specs.Records.{recordAt, ifWord, cloneIn, recordRows, recordOp, recordOps, givenRecords, bodyNumbers, stepNumber, stepNumbers, StepPromise, pieceNumber, pieceNumbers, PiecePromise}
+use Rattle.client.specs.Read.{ofStep, ofPiece}
 use Rattle.client.specs.declared.request.Wrote.{Wrote}
 use Rattle.client.specs.Given.{wellGiven, givenOps, given, WritePromise}
 use Rattle.client.proofs.RequestLaws.{none≢some, refuses, refused}
@@ -238,6 +242,16 @@ seven (Body.Copied a) = refl
 seven (Body.Pieces a) = refl
 seven (Body.Sought a) = refl
 
-pub told-handed : {x : Step} (r : OpResult) (c : Cursor) (l : List ℕ) → x ≡ Step.Handed r c → l ≡ bodyNumbers (r .body)
-    → r .number ∷ r .status ∷ c .at ∷ getD l 0 0 ∷ getD l 1 0 ∷ getD l 2 0 ∷ getD l 3 0 ∷ getD l 4 0 ∷ getD l 5 0 ∷ getD l 6 0 ∷ [] ≡ stepNumbers x
-told-handed r c l e f = ap (λ m. r .number ∷ r .status ∷ c .at ∷ m) (ap sevenOf f ∙ seven (r .body)) ∙ sym (ap stepNumbers e)
+pub told-handed : (r : OpResult) (c : Cursor) (l : List ℕ) → l ≡ bodyNumbers (r .body)
+    → r .number ∷ r .status ∷ c .at ∷ getD l 0 0 ∷ getD l 1 0 ∷ getD l 2 0 ∷ getD l 3 0 ∷ getD l 4 0 ∷ getD l 5 0 ∷ getD l 6 0 ∷ [] ≡ stepNumbers (Step.Handed r c)
+told-handed r c l f = ap (λ m. r .number ∷ r .status ∷ c .at ∷ m) (ap sevenOf f ∙ seven (r .body))
+
+-- the step x that was read at a place is y, whose numbers are told
+pub step-told : {s told : List ℕ} {at number : ℕ} {o : Opened} (x : Step) {y : Step} → ofStep s x ≡ step s (o .first) → o ≡ record { number = 0; status = 0; first = at }
+    → x ≡ y → number ≡ stepNumber y → told ≡ stepNumbers y → StepPromise s at number told
+step-told {s} x e f q n t = record { as-read = x; step-is = e ∙ ap (λ (o : Opened). step s (o .first)) f; number-is = n ∙ sym (ap stepNumber q); told-is = t ∙ sym (ap stepNumbers q) }
+
+-- and a piece
+pub piece-told : {s told : List ℕ} {at place number : ℕ} (x : PieceRead) {y : PieceRead} → ofPiece s x ≡ pieceLayout .read s place → place ≡ at
+    → x ≡ y → number ≡ pieceNumber y → told ≡ pieceNumbers y → PiecePromise s at number told
+piece-told {s} x e f q n t = record { as-read = x; piece-is = e ∙ ap (pieceLayout .read s) f; number-is = n ∙ sym (ap pieceNumber q); told-is = t ∙ sym (ap pieceNumbers q) }

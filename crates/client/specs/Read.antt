@@ -7,7 +7,7 @@ use mathlib.Core.List.{List, []}
 use lib.ListN.{length}
 use lib.Dec.{eqb}
 use Rattle.xdr.specs.Bytes.{partOf}
-use Rattle.xdr.specs.Decode.{Parsed, got, fault, andThen, numbers, times}
+use Rattle.xdr.specs.Decode.{Parsed, got, fault, numbers, times}
 use Rattle.rules.specs.Client.{Content, data-at, hole-at, pieceLayout, Body, empty, attrs, handle, file-data, written, copied, pieces, sought, Result, result, agree, follow, Step, handed, done, faulty, opened}
 use Rattle.client.specs.declared.reply.Body as Code
 use Rattle.client.specs.declared.reply.OpResult.{OpResult}

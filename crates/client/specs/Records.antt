@@ -1,14 +1,12 @@
 -- The exported calls' numbers: operations as records of ten, and what is told of a reply.
-use Prim.Native.Nat.{ℕ, zero, suc, _+_, _*_, _/_, _%_}
+use Prim.Native.Nat.{ℕ, zero, suc, _+_, _/_, _%_}
 use mathlib.Core.Path.{_≡_}
 use mathlib.Core.Bool.{cond, _&&_}
 use mathlib.Core.Option.{Option, none, some}
 use mathlib.Core.List.{List, [], _∷_}
 use lib.ListN.{length, getD, replicate}
 use lib.Dec.{eqb}
-use Rattle.xdr.specs.declared.bytes.Span.{Span}
 use Rattle.xdr.specs.Layout.{isWord}
-use Rattle.xdr.specs.Decode.{Parsed}
 use Rattle.rules.specs.Operation.{Op, find}
 use Rattle.rules.specs.Client.{wrote, pieceLayout, opened, step}
 use Rattle.wire.specs.declared.operation.CloneArgs.{CloneArgs}
@@ -16,7 +14,6 @@ use Rattle.wire.specs.declared.operation.Operation.{Operation}
 use Rattle.client.specs.declared.records.OpRecord.{OpRecord}
 use Rattle.client.specs.declared.records.Made.{Made}
 use Rattle.client.specs.declared.reply.Body.{Body}
-use Rattle.client.specs.declared.reply.OpResult.{OpResult}
 use Rattle.client.specs.declared.reply.Step.{Step}
 use Rattle.client.specs.declared.reply.PieceRead.{PieceRead}
 use Rattle.client.specs.Given.{givenOps}

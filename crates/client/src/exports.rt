@@ -1,14 +1,18 @@
 // The calls for builders: client.h has their C declarations. Each hands its arguments to the call below it.
 ghost use mathlib.Core.Path.{_≡_};
+ghost use Rattle.client.specs.declared.reply.Body.{Body};
 ghost use Rattle.client.specs.Records.{givenRecords, RequestPromise, OpenedPromise, bodyNumbers, StepPromise, PiecePromise};
 use crate::body::piece;
+use crate::open::Opened;
 use crate::open::open_reply;
+use crate::reader::next_at;
 use crate::records::write_records;
+use crate::reply::AttrsBody;
 use crate::reply::Body;
-use crate::reply::OpResult;
+use crate::reply::CopiedBody;
 use crate::reply::PieceRead;
 use crate::reply::Step;
-use crate::result::step;
+use crate::reply::WrittenBody;
 use xdr::Cursor;
 
 // Writes a request: 0, or refusal 9 or 11.
@@ -43,49 +47,66 @@ pub extern "C" fn client_open_reply(
     o.number
 }
 
-// A body's numbers.
+// The numbers of bodies.
+fn attrs_numbers(a: AttrsBody) -> [u64; 7]
+    ensures { λ r. ⌜ r ≡ bodyNumbers (Body.Attrs a) ⌝ }
+{
+    let b = a.bitmap;
+    let v = a.values;
+    [
+        b.start as u64,
+        b.len as u64,
+        v.start as u64,
+        v.len as u64,
+        0,
+        0,
+        0,
+    ]
+}
+
+fn written_numbers(a: WrittenBody) -> [u64; 7]
+    ensures { λ r. ⌜ r ≡ bodyNumbers (Body.Written a) ⌝ }
+{
+    let v = a.verifier;
+    [
+        a.count as u64,
+        a.committed as u64,
+        v.start as u64,
+        v.len as u64,
+        0,
+        0,
+        0,
+    ]
+}
+
+fn copied_numbers(a: CopiedBody) -> [u64; 7]
+    ensures { λ r. ⌜ r ≡ bodyNumbers (Body.Copied a) ⌝ }
+{
+    let v = a.verifier;
+    [
+        a.count,
+        a.committed as u64,
+        v.start as u64,
+        v.len as u64,
+        a.consecutive as u64,
+        a.synchronous as u64,
+        0,
+    ]
+}
+
 fn body_numbers(b: Body) -> [u64; 7]
     ensures { λ r. ⌜ r ≡ bodyNumbers b ⌝ }
 {
     match b {
         Body::Empty => [0; 7],
-        Body::Attrs(a) => [
-            a.bitmap.start as u64,
-            a.bitmap.len as u64,
-            a.values.start as u64,
-            a.values.len as u64,
-            0,
-            0,
-            0,
-        ],
+        Body::Attrs(a) => attrs_numbers(a),
         Body::Handle(d) => [d.start as u64, d.len as u64, 0, 0, 0, 0, 0],
-        Body::FileData(a) => [
-            a.eof as u64,
-            a.data.start as u64,
-            a.data.len as u64,
-            0,
-            0,
-            0,
-            0,
-        ],
-        Body::Written(a) => [
-            a.count as u64,
-            a.committed as u64,
-            a.verifier.start as u64,
-            a.verifier.len as u64,
-            0,
-            0,
-            0,
-        ],
-        Body::Copied(a) => [
-            a.count,
-            a.committed as u64,
-            a.verifier.start as u64,
-            a.verifier.len as u64,
-            a.consecutive as u64,
-            a.synchronous as u64,
-            0,
-        ],
+        Body::FileData(a) => {
+            let d = a.data;
+            [a.eof as u64, d.start as u64, d.len as u64, 0, 0, 0, 0]
+        }
+        Body::Written(a) => written_numbers(a),
+        Body::Copied(a) => copied_numbers(a),
         Body::Pieces(a) => [a.eof as u64, a.count as u64, a.first.at as u64, 0, 0, 0, 0],
         Body::Sought(a) => [a.eof as u64, a.offset, 0, 0, 0, 0, 0],
     }
@@ -96,7 +117,7 @@ fn body_numbers(b: Body) -> [u64; 7]
 pub extern "C" fn client_next_result(reply: &[u8], at: u64, told: &mut [u64; 10]) -> u32
     ensures { λ r. ⌜ StepPromise (now (reply .entry)) at r (now (told .exit)) ⌝ }
 {
-    match step(reply, at as usize) {
+    match next_at(reply, Opened::from(at as usize)) {
         Step::Handed(r, next) => {
             let body = r.body;
             let b = body_numbers(body);

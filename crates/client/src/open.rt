@@ -26,6 +26,17 @@ impl Opened {
 
     pub const NO_STATUS: u32 = 4294967295;
 
+    // A reply that was opened, read on from a place that was told.
+    pub fn from(first: usize) -> Self
+        ensures { λ r. ⌜ r ≡ record { number = 0; status = 0; first = first } ⌝ }
+    {
+        Opened {
+            number: 0,
+            status: 0,
+            first,
+        }
+    }
+
     fn refused(end: usize) -> Self
         ensures { λ r. ⌜ r ≡ record { number = 10; status = 4294967295; first = end } ⌝ }
     {

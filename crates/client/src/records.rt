@@ -4,7 +4,7 @@ ghost use mathlib.Core.Logic.{_⊎_};
 ghost use Prim.Native.Nat.{_+_, _*_, _≤_};
 ghost use lib.ListN.{length};
 ghost use Rattle.client.specs.Given.{WritePromise};
-ghost use Rattle.client.specs.Records.{recordAt, ofMade, recordOp, recordOps, givenRecords, cloneIn};
+ghost use Rattle.client.specs.Records.{recordAt, ofMade, recordOp, givenRecords, cloneIn};
 use crate::request::Wrote;
 use crate::request::write_request;
 use wire::CloneArgs;

@@ -1,15 +1,15 @@
 -- What a builder's program has of the client's half, proved: what was written decodes, what was answered is read, and demand 3 of what is read.
-use Prim.Native.Nat.{ℕ, zero, suc, _+_, _≤_, _<_}
+use Prim.Native.Nat.{ℕ, zero, suc, _+_, _≤_}
 use mathlib.Core.Path.{_≡_, refl, sym, ap, _∙_, subst}
-use mathlib.Core.Bool.{Bool, true, false, cond, _&&_, not}
-use mathlib.Core.Option.{none, some}
+use mathlib.Core.Bool.{Bool, true, cond, _&&_}
+use mathlib.Core.Option.{some}
 use mathlib.Core.List.{List, [], _∷_, _++_, List·Memᴰ, List·Memᴰ·not-nil, List·Memᴰ·cases-cons, List·Memᴰ·head, List·Memᴰ·tail, List·Memᴰ·append-cases, Memᴰ·append-left, Memᴰ·append-right}
 use mathlib.Core.Logic.{_⊎_, inl, inr}
 use native.Mathlib.Omega.{arith}
 use borrow.Author.Tests.{leb-true, not-false, le-ltb, eq-eqb}
 use lib.ListN.{length, take, drop, length-append}
 use lib.Seq.{take-append-seam}
-use lib.Dec.{leb, ltb, eqb}
+use lib.Dec.{leb, eqb}
 use Rattle.xdr.specs.Layout.{every}
 use Rattle.xdr.proofs.BoolLaws.{and-left, and-right, and-both}
 use Rattle.xdr.specs.Encode.{concatMap}
@@ -18,14 +18,14 @@ use Rattle.xdr.proofs.RoundTrip.{Stands, stands-first, stands-rest}
 use Rattle.rules.specs.Lists.{first}
 use Rattle.rules.specs.Store.{Geometry, Store}
 use Rattle.rules.specs.Operation.{Op, WRITE, op, fileSync, opFits, requestBytes, headerLayout, items, Header, header}
-use Rattle.rules.specs.Run.{State, zeroId, errors, Config, Event, sameBytes, reached}
+use Rattle.rules.specs.Run.{State, zeroId, Event, sameBytes, reached}
 use Rattle.rules.specs.Calls.{fresh, headerStatus, compound, itemNumber, resultBytes, lastStatus, replyHead, replyBytes, Call, Outcome, answer}
 use Rattle.rules.specs.Client.{requestFits, Wrote, notWritten, writeRefusals, wrote, written, bodyBytes, Result, Reply, reply, agree, follow, answers, notOpened, opened}
 use Rattle.rules.specs.Claim.{Entry, serving, Each, machine, events, history, Allocated}
-use Rattle.rules.specs.Builder.{itemsFrom, Decodes, WritingClaim, HandsOut, SameResult, SameResults, opNumbers, ReadsAs, ReplyClaim, replyOf, resultsIn, pairs, readings, AllocatedAsRead, ReadsWritten, ReadsTrue, BuilderClaim}
+use Rattle.rules.specs.Builder.{itemsFrom, Decodes, WritingClaim, SameResult, SameResults, opNumbers, ReadsAs, ReplyClaim, replyOf, resultsIn, pairs, readings, AllocatedAsRead, ReadsWritten, ReadsTrue, BuilderClaim}
 use Rattle.rules.proofs.FirstLaws.{all-clear}
 use Rattle.rules.proofs.GeometryLaws.{Good, good}
-use Rattle.rules.proofs.OperationLaws.{Ready, refused, nospc, done}
+use Rattle.rules.proofs.OperationLaws.{refused, nospc, done}
 use Rattle.rules.proofs.ChainLaws.{op-inj, op≢bad, Step, decoded, undecoded, Chain, nil, cons}
 use Rattle.rules.proofs.ResultLaws.{write-shown}
 use Rattle.rules.proofs.ClaimProof.{Fulfils, claim-of, no-events, serving-fulfils}
@@ -342,6 +342,30 @@ module _ (E : Entry) (F : Fulfils E) (A : (g : Geometry) → Answered E g) where
             let ok : w .status ≡ 0 = claim .reservation f o n p d w (allocated-as-read g bd a (own-same g bd (a .a) (a .result) (owned (a .a, a .result) (a .read)))) in
             reads-written g bd p (a .stable) d (a .write .0 .1) ok (owned (w, r) m);
       }
+
+-- what the claim calls allocated is read so
+pub as-read : {E : Entry} {g : Geometry} {t : E .Tables} {cs : List (E .Given)} {os : List (Outcome (E .Tables))} → ReadsTrue E g t cs os
+    → {f o n p : ℕ} {d : List ℕ} {w : Event} → Allocated g (history E t cs) f o n p d w → AllocatedAsRead g (history E t cs) (readings E t cs os) f o n p d w
+as-read reads {w = w} al =
+    let pre = al .between .0 in
+    let here : List·Memᴰ (al .a) (pre ++ (al .a ∷ (al .mid ++ (w ∷ al .between .1)))) = Memᴰ·append-right pre (List·Memᴰ·head refl) in
+    let r = reads .all (al .a) (subst (List·Memᴰ (al .a)) (sym (al .between .2)) here) in
+    record {
+      a = al .a;
+      mid = al .mid;
+      between = al .between;
+      id = al .id;
+      allocate = al .allocate;
+      result = r .0;
+      read = r .1;
+      read-ok = reads .own (al .a) (r .0) (r .1) .status ∙ al .done;
+      kept = al .kept;
+      stable = al .stable;
+      write = al .write;
+      some-byte = al .some-byte;
+      starts = al .starts;
+      ends = al .ends;
+    }
 
 -- ---- the entry that serves a compound
 

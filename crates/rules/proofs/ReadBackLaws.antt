@@ -1,8 +1,7 @@
 -- Reading a reply: results one after the other to the last byte; and the results of the operations reached, read in the reply that has them.
 use Prim.Native.Nat.{ℕ, zero, suc, _+_, _^_, _≤_, _<_, max}
 use mathlib.Core.Path.{_≡_, refl, sym, ap, _∙_}
-use mathlib.Core.Bool.{Bool, true, false, cond, _&&_, not}
-use mathlib.Core.Option.{none, some}
+use mathlib.Core.Bool.{Bool, true, false, cond, _&&_}
 use mathlib.Core.List.{List, [], _∷_, _++_}
 use mathlib.Core.Logic.{_≢_, _⊎_, inl, inr}
 use native.Mathlib.Nat.{add-assoc, add-zero}
@@ -10,27 +9,25 @@ use native.Mathlib.Decide.{decLe}
 use native.Mathlib.Omega.{arith}
 use borrow.Author.Tests.{eqb-true, le-leb, lt-leb, lt-ltb, eq-eqb, ne-eqb}
 use lib.ListN.{length, length-append}
-use lib.Dec.{leb, eqb}
+use lib.Dec.{eqb}
 use Rattle.xdr.specs.Encode.{u32, concatMap}
 use Rattle.xdr.specs.Decode.{Parsed, got, fault, stop, andThen, number, times}
 use Rattle.xdr.proofs.BoolLaws.{and-left, and-both}
-use Rattle.xdr.proofs.EncodeLaws.{length-u32}
 use Rattle.xdr.proofs.DecodeLaws.{missing, number-missing}
 use Rattle.xdr.proofs.Onward.{fault≢got}
 use Rattle.xdr.proofs.RoundTrip.{Stands, stands-first, stands-rest}
 use Rattle.xdr.proofs.LayoutLaws.{uint-back}
 use Rattle.rules.specs.Store.{Geometry}
-use Rattle.rules.specs.Operation.{Op, WRITE, opNumber, opBytes, Item, op, fileSync}
-use Rattle.rules.specs.Run.{State, errors, Config, config, Event, failed, perform, reached}
-use Rattle.rules.specs.Calls.{itemNumber, resultBytes, lastStatus, replyHead, replyBytes}
-use Rattle.rules.specs.Client.{Body, empty, written, bodyBytes, bodyBy, Result, result, Reply, reply, agree, follow, answers, Opened, notOpened, opened, handed, step}
+use Rattle.rules.specs.Operation.{Op, opNumber, opBytes, Item, op}
+use Rattle.rules.specs.Run.{State, Config, config, Event, perform, reached}
+use Rattle.rules.specs.Calls.{itemNumber, resultBytes, lastStatus, replyHead}
+use Rattle.rules.specs.Client.{Body, empty, bodyBytes, bodyBy, Result, result, Reply, reply, agree, follow, answers, Opened, notOpened, opened, handed, step}
 use Rattle.rules.specs.Client as client
 use Rattle.rules.specs.Builder.{HandsOut, OpensOr, SameResult, SameResults, itemsFrom, opNumbers}
 use Rattle.rules.proofs.GeometryLaws.{Good}
-use Rattle.rules.proofs.OperationLaws.{Ready, Performed, refused, nospc, done, performed, performed-item}
-use Rattle.rules.proofs.ItemLaws.{BadKnown}
+use Rattle.rules.proofs.OperationLaws.{Performed, refused, nospc, done, performed, performed-item}
 use Rattle.rules.proofs.ChainLaws.{Step, decoded, undecoded, Chain, nil, cons, step-known}
-use Rattle.rules.proofs.ResultLaws.{Shown, body-shown}
+use Rattle.rules.proofs.ResultLaws.{body-shown}
 
 -- ---- any bytes
 

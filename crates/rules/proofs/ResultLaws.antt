@@ -1,7 +1,7 @@
 -- The bodies of results read back: what the rules write for an operation without error is a value of its layout.
-use Prim.Native.Nat.{ℕ, zero, suc, _+_, _*_, _/_, _%_, _^_, _≤_, _<_}
+use Prim.Native.Nat.{ℕ, zero, suc, _+_, _*_, _^_, _≤_, _<_}
 use mathlib.Core.Path.{_≡_, refl, sym, ap, _∙_, subst}
-use mathlib.Core.Bool.{Bool, true, false, cond, _&&_}
+use mathlib.Core.Bool.{Bool, true, false, cond}
 use mathlib.Core.Option.{Option, none, some}
 use mathlib.Core.List.{List, [], _∷_, _++_, List·Memᴰ, List·Memᴰ·head, List·Memᴰ·tail}
 use native.Mathlib.Nat.{add-assoc, add-zero}
@@ -17,7 +17,7 @@ use Rattle.xdr.proofs.EncodeLaws.{length-u32}
 use Rattle.xdr.proofs.RoundTrip.{Stands, stands-first, stands-rest, bounded-back}
 use Rattle.xdr.proofs.LayoutLaws.{ReadsBack, uint-back, hyper-back, limit-back, boolean-back, bytes-back, opaque-data-back, then-back, times-back}
 use Rattle.xdr.proofs.ArrayLaws.{uints-back}
-use Rattle.rules.specs.Lists.{first, tabulate}
+use Rattle.rules.specs.Lists.{first}
 use Rattle.rules.specs.Store.{Geometry, Store, sizeOf, byteAt, bytesFrom}
 use Rattle.rules.specs.Read.{Piece, readCount, atEnd, readPieces, seekPlace}
 use Rattle.rules.specs.Attributes.{Attr, attrNumber, supported, select, asksFor, bitmapWord, bitmapLength, bitmap, FileAttrs, fileAttrs, attrValue}

@@ -13,7 +13,7 @@ use Rattle.rules.specs.Operation.{Op, WRITE, ALLOCATE, opNumber, opBytes
 use Rattle.rules.specs.Run.{Event, zeroId}
 use Rattle.rules.specs.Calls.{itemNumber, lastStatus, Call, Outcome, answer}
 use Rattle.rules.specs.Claim.{Entry, serving, events, history, Is, SlotOf, GivesBack, Between, EveryList}
-use Rattle.rules.specs.Client.{requestFits, wrote, Body, written, bodyBytes, Result, Reply, reply, opened, Step, handed, done, step}
+use Rattle.rules.specs.Client.{requestFits, wrote, written, bodyBytes, Result, Reply, reply, opened, handed, done, step}
 
 -- ---- a request that was written
 

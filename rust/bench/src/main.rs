@@ -2,10 +2,11 @@
 //! recording of frames.
 //!
 //! `bench` prints the tables, `bench picks [BEFORE]` that of the WRITEs that take free blocks, beside
-//! the same program linked with another archive, `bench record LINES` that many requests, `bench pairs PAIRS` that many
+//! the same program linked with another archive, `bench client` that of the clients, `bench record LINES` that many requests, `bench pairs PAIRS` that many
 //! of the same requests, each with its answer behind it.
 
 mod case;
+mod client;
 mod measure;
 mod pick;
 mod record;
@@ -21,6 +22,7 @@ fn main() -> io::Result<ExitCode> {
     let words: Vec<&str> = words.iter().map(String::as_str).collect();
     match words[..] {
         [] => with_stack(measure::tables),
+        ["client"] => with_stack(client::tables),
         ["picks"] => with_stack(|| measure::picks(None)),
         ["picks", before] => with_stack(|| measure::picks(Some(before))),
         ["pick", number] => match number.parse() {
@@ -43,6 +45,6 @@ fn record(requests: &str, written: Written) -> io::Result<ExitCode> {
 }
 
 fn usage() -> ExitCode {
-    eprintln!("arguments: none, or picks [BEFORE], or record LINES, or pairs PAIRS");
+    eprintln!("arguments: none, or picks [BEFORE], or client, or record LINES, or pairs PAIRS");
     ExitCode::from(2)
 }

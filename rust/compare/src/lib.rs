@@ -6,9 +6,12 @@
 //! a difference short, `seed` puts these together, `damage` makes requests wrong at every byte, `tally` counts what was met, with `slots` and
 //! `attributes`, and `program` runs many seeds.
 //!
+//! `client` compares two clients: what they write, and what they tell of replies.
+//!
 //! `frames` makes the lines of the programs, and `recording` compares programs that replay them.
 
 mod attributes;
+mod client;
 mod damage;
 mod difference;
 mod frames;
@@ -26,6 +29,7 @@ mod slots;
 mod tally;
 pub mod wire;
 
+pub use client::{try_replies, try_requests, try_served, Answer, Client, ClientTally, Parted};
 pub use damage::try_damaged;
 pub use difference::Difference;
 pub use frames::Frames;

@@ -4,6 +4,7 @@ use std::ops::Range;
 use std::process::ExitCode;
 use std::thread;
 
+use crate::client::{try_replies, try_requests, try_served, Client, ClientTally, Parted};
 use crate::damage::try_damaged;
 use crate::seed::{try_seed, Found};
 use crate::server::Server;
@@ -16,14 +17,22 @@ const FIRST_SEED: u64 = 1;
 /// One seed in so many is named on standard error, for a server that stops in the middle.
 const PROGRESS: u64 = 2000;
 
+/// One seed in so many has its list served to clients too.
+const SERVED_EVERY: u64 = 4;
+
 /// More than the calls need.
 const STACK: usize = 8 << 20;
 
-/// A server with its name.
-pub type Named<'a> = (&'a str, &'a (dyn Server + Sync));
+/// A server and a client.
+pub trait Program: Server + Client + Sync {}
 
-/// Compares two servers: success, or 1 on a difference, or 2 on arguments that aren't numbers.
-pub fn main(servers: [Named; 2]) -> ExitCode {
+impl<T: Server + Client + Sync> Program for T {}
+
+/// A program with its name.
+pub type Named<'a> = (&'a str, &'a dyn Program);
+
+/// Compares two programs: success, or 1 on a difference, or 2 on arguments that aren't numbers.
+pub fn main(programs: [Named; 2]) -> ExitCode {
     let arguments = std::env::args().skip(1).map(|word| word.parse().ok());
     let Some(arguments) = arguments.collect::<Option<Vec<u64>>>() else {
         eprintln!("arguments: [SEEDS] [FIRST_SEED]");
@@ -31,10 +40,10 @@ pub fn main(servers: [Named; 2]) -> ExitCode {
     };
     let seeds = arguments.first().copied().unwrap_or(SEEDS);
     let first = arguments.get(1).copied().unwrap_or(FIRST_SEED);
-    match with_stack(|| compare(servers, first..first + seeds)) {
-        Ok(tally) => report(&tally),
-        Err(found) => {
-            report_difference(servers, &found);
+    match with_stack(|| compare(programs, first..first + seeds)) {
+        Ok(tallies) => report(&tallies),
+        Err(difference) => {
+            difference.report(programs.map(|named| named.0));
             ExitCode::FAILURE
         }
     }
@@ -49,32 +58,62 @@ pub fn with_stack<T: Send>(work: impl FnOnce() -> T + Send) -> T {
     })
 }
 
-fn compare(servers: [Named; 2], seeds: Range<u64>) -> Result<Tally, Box<Found>> {
-    let mut tally = Tally::default();
-    try_damaged(servers.map(|named| named.1 as &dyn Server), &mut tally)?;
+#[derive(Default)]
+struct Tallies {
+    servers: Tally,
+    clients: ClientTally,
+}
+
+/// Where two programs differ.
+enum Difference {
+    Servers(Box<Found>),
+    /// What was compared, and how they part.
+    Clients(String, Box<Parted>),
+}
+
+impl From<Box<Found>> for Difference {
+    fn from(found: Box<Found>) -> Difference {
+        Difference::Servers(found)
+    }
+}
+
+fn compare(programs: [Named; 2], seeds: Range<u64>) -> Result<Tallies, Difference> {
+    let mut tallies = Tallies::default();
+    let servers = programs.map(|named| named.1 as &dyn Server);
+    let clients = programs.map(|named| named.1 as &dyn Client);
+    try_damaged(servers, &mut tallies.servers)?;
+    try_replies(servers[0], clients, &mut tallies.clients)
+        .map_err(|parted| Difference::Clients("replies".into(), parted))?;
     for seed in seeds {
         if seed.is_multiple_of(PROGRESS) {
             eprintln!("seed {seed}");
         }
-        try_seed(
-            seed,
-            servers.map(|named| named.1 as &dyn Server),
-            &mut tally,
-        )?;
+        try_seed(seed, servers, &mut tallies.servers)?;
+        try_requests(seed, clients, &mut tallies.clients)
+            .map_err(|parted| Difference::Clients(format!("seed {seed}, requests"), parted))?;
+        if seed.is_multiple_of(SERVED_EVERY) {
+            try_served(seed, servers[0], clients, &mut tallies.clients)
+                .map_err(|parted| Difference::Clients(format!("seed {seed}, served"), parted))?;
+        }
     }
-    Ok(tally)
+    Ok(tallies)
 }
 
 /// Failure where a reply has something that document 01 doesn't allow.
-fn report(tally: &Tally) -> ExitCode {
-    println!("{tally}");
-    for missing in tally.missing() {
+fn report(tallies: &Tallies) -> ExitCode {
+    let Tallies {
+        servers: tally,
+        clients,
+    } = tallies;
+    println!("{tally}\n{clients}");
+    for missing in tally.missing().iter().chain(&clients.missing()) {
         println!("never met: {missing}");
     }
     let strange = tally.strange();
     for strange in &strange {
         println!("not allowed: {strange}");
     }
+    println!("{}", clients.line());
     println!(
         "{} lists, {} damaged requests, {} calls, {} operations, {} slots shown compared",
         tally.lists, tally.damaged, tally.calls, tally.operations, tally.views
@@ -85,10 +124,23 @@ fn report(tally: &Tally) -> ExitCode {
     }
 }
 
-fn report_difference(servers: [Named; 2], found: &Found) {
-    println!("{}: {}", found.name, found.difference.what);
-    print!("{}", found.list);
-    for ((name, _), answer) in servers.iter().zip(&found.difference.answers) {
-        println!("{name}: {answer}");
+impl Difference {
+    fn report(&self, names: [&str; 2]) {
+        let (name, what, given, answers) = match self {
+            Difference::Servers(found) => {
+                let difference = &found.difference;
+                let list = found.list.to_string();
+                (&found.name, &difference.what, list, &difference.answers)
+            }
+            Difference::Clients(name, parted) => {
+                let given = parted.given.clone();
+                (name, &parted.what, given, &parted.answers)
+            }
+        };
+        println!("{name}: {what}");
+        print!("{given}");
+        for (name, answer) in names.iter().zip(answers) {
+            println!("{name}: {answer}");
+        }
     }
 }

@@ -59,7 +59,7 @@ pub trait Server {
 pub struct Second;
 
 /// Where a part of a slice starts in it.
-fn start_of(part: &[u8], whole: &[u8]) -> u64 {
+pub(crate) fn start_of(part: &[u8], whole: &[u8]) -> u64 {
     (part.as_ptr() as u64).wrapping_sub(whole.as_ptr() as u64)
 }
 

@@ -45,7 +45,7 @@ const NUMBERS: [(&str, &[u32]); 7] = [
 ];
 
 /// The statuses that document 01 allows an operation.
-fn allowed(number: u32) -> &'static [u32] {
+pub(crate) fn allowed(number: u32) -> &'static [u32] {
     match number {
         wire::GETATTR => &[0, 10020, 10036],
         wire::GETFH | wire::SAVEFH | wire::RESTOREFH => &[0, 10020],

@@ -55,6 +55,10 @@ pub fn int(value: u32) -> Vec<u8> {
     value.to_be_bytes().to_vec()
 }
 
+pub fn long(value: u64) -> Vec<u8> {
+    value.to_be_bytes().to_vec()
+}
+
 pub fn opaque(bytes: &[u8]) -> Vec<u8> {
     let mut all = [&int(bytes.len() as u32), bytes].concat();
     all.resize(all.len().next_multiple_of(4), 0);

@@ -13,9 +13,9 @@ pub const REQUEST_MAX: usize = 65_536;
 pub const REPLY_MIN: usize = 32_768;
 
 const VERIFIER_LENGTH: usize = 8;
-const TAG_MAX: u32 = 1024;
-const MINOR_VERSION: u32 = 2;
-const OPERATIONS_MAX: u32 = 12;
+pub(crate) const TAG_MAX: u32 = 1024;
+pub(crate) const MINOR_VERSION: u32 = 2;
+pub(crate) const OPERATIONS_MAX: u32 = 12;
 
 /// The place where no byte of a request is wrong.
 pub const NOWHERE: usize = 4_294_967_295;

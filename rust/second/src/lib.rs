@@ -3,9 +3,11 @@
 //! `xdr` reads and writes the wire forms, `operation` decodes the operations, `store` and `edit`
 //! hold the rules of the store, `reading` answers READ, READ_PLUS and SEEK, `attributes` GETATTR,
 //! `runner` runs the operations, `compound` a whole request, `frames` is the program's line, and
-//! `replay` runs a recording of lines again.
+//! `replay` runs a recording of lines again. `client` is the other side: it writes requests and takes
+//! replies apart.
 
 mod attributes;
+pub mod client;
 mod compound;
 mod edit;
 mod frames;

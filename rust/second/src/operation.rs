@@ -6,15 +6,15 @@ use crate::xdr::{BadXdr, Reader};
 pub(crate) type Stateid = [u8; 16];
 
 /// The longest handle that decodes.
-const HANDLE_MAX: u32 = 128;
+pub(crate) const HANDLE_MAX: u32 = 128;
 
 /// The most words of a bitmap that decodes.
-const BITMAP_MAX: u32 = 4;
+pub(crate) const BITMAP_MAX: u32 = 4;
 
 /// The result number of an operation that has none of its own.
 const ILLEGAL: u32 = 10044;
 
-mod number {
+pub(crate) mod number {
     pub const GETATTR: u32 = 9;
     pub const GETFH: u32 = 10;
     pub const PUTFH: u32 = 22;

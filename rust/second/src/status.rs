@@ -11,6 +11,9 @@ pub enum Refusal {
     Header = 6,
     Line = 7,
     NoSuchSlot = 8,
+    BufferTooShort = 9,
+    NotTheReply = 10,
+    Unwritable = 11,
 }
 
 impl Refusal {

@@ -7,7 +7,7 @@ pub(crate) struct BadXdr {
     pub place: usize,
 }
 
-/// Reads a request from its start.
+/// Reads a request or a reply, onward.
 #[derive(Clone)]
 pub(crate) struct Reader<'a> {
     bytes: &'a [u8],
@@ -19,12 +19,23 @@ impl<'a> Reader<'a> {
         Reader { bytes, at: 0 }
     }
 
-    /// How many bytes have been read.
+    /// Reads on from a place; nothing where it is past the end.
+    pub fn from(bytes: &'a [u8], at: u64) -> Option<Reader<'a>> {
+        let at = usize::try_from(at).ok()?;
+        (at <= bytes.len()).then_some(Reader { bytes, at })
+    }
+
+    /// The place of the next byte.
     pub fn at(&self) -> usize {
         self.at
     }
 
-    fn take(&mut self, count: usize) -> Result<&'a [u8], BadXdr> {
+    pub fn is_at_end(&self) -> bool {
+        self.at == self.bytes.len()
+    }
+
+    /// Bytes without a length before them or a pad behind them.
+    pub fn take(&mut self, count: usize) -> Result<&'a [u8], BadXdr> {
         let rest = &self.bytes[self.at..];
         let missing = BadXdr {
             place: self.bytes.len(),

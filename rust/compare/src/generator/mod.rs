@@ -78,6 +78,11 @@ impl Generator {
         }
     }
 
+    /// A call with nothing wrong but what its operations have.
+    pub fn usual_call(&mut self, store: &Store) -> Call {
+        self.maker(store).usual()
+    }
+
     /// A call with one case of GETATTR, the next one in the next seed.
     pub fn call_by_turns(&mut self, store: &Store) -> Call {
         let cases = attributes::cases();

@@ -34,8 +34,12 @@ pub enum PiecesEnd {
 }
 
 impl BodyRead {
-    // Bytes of a verifier.
+    // Bytes of a verifier, the number of callback ids, and the highest content type.
     pub const VERIFIER: usize = 8;
+
+    pub const CALLBACKS: u32 = 0;
+
+    pub const MAX_CONTENT: u32 = 1;
 }
 
 fn attrs_body(s: &[u8], c: Cursor) -> BodyRead
@@ -105,7 +109,7 @@ fn copied_body(s: &[u8], c: Cursor) -> BodyRead
     ensures { λ r. ⌜ ofBodyRead (now (s .entry)) r
         ≡ reading copyResult (λ a. copied (a .1 .0) (a .1 .1 .0) (a .1 .1 .1 .0) (a .1 .1 .1 .1 .0) (a .1 .1 .1 .1 .1)) (now (s .entry)) (c .at) ⌝ }
 {
-    let i = c.up_to(s, 0);
+    let i = c.up_to(s, BodyRead::CALLBACKS);
     let Word::Value(_, c2) = i else {
         return BodyRead::Fault(i.place());
     };
@@ -188,7 +192,7 @@ fn hole_piece(s: &[u8], c: Cursor) -> PieceRead
 pub fn piece(s: &[u8], c: Cursor) -> PieceRead
     ensures { λ r. ⌜ ofPiece (now (s .entry)) r ≡ pieceLayout .read (now (s .entry)) (c .at) ⌝ }
 {
-    let k = c.up_to(s, 1);
+    let k = c.up_to(s, BodyRead::MAX_CONTENT);
     let Word::Value(kind, next) = k else {
         return PieceRead::Fault(k.place());
     };

@@ -137,11 +137,11 @@ pub extern "C" fn client_next_result(reply: &[u8], at: u64, told: &mut [u64; 10]
         }
         Step::Done => {
             *told = [0; 10];
-            1
+            Opened::DONE
         }
         Step::Faulty(_) => {
             *told = [0; 10];
-            10
+            Opened::NOT_OPENED
         }
     }
 }
@@ -168,7 +168,7 @@ pub extern "C" fn client_next_piece(reply: &[u8], at: u64, told: &mut [u64; 5]) 
         }
         PieceRead::Fault(_) => {
             *told = [0; 5];
-            10
+            Opened::NOT_OPENED
         }
     }
 }

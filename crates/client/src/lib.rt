@@ -19,6 +19,8 @@ pub use reply::AttrsBody;
 pub use reply::Body;
 pub use reply::CopiedBody;
 pub use reply::DataBody;
+pub use reply::DataPiece;
+pub use reply::HolePiece;
 pub use reply::OpResult;
 pub use reply::PieceRead;
 pub use reply::PiecesBody;

@@ -26,6 +26,9 @@ impl Opened {
 
     pub const NO_STATUS: u32 = 4294967295;
 
+    // Behind the last result.
+    pub const DONE: u32 = 1;
+
     // A reply that was opened, read on from a place that was told.
     pub fn from(first: usize) -> Self
         ensures { λ r. ⌜ r ≡ record { number = 0; status = 0; first = first } ⌝ }

@@ -16,10 +16,21 @@ pub struct Wrote {
 }
 
 impl Wrote {
-    // Bytes of a request at most, and one more.
+    // Limits: operations; bytes of a tag, of a handle, of a bitmap's words, and of a request; and one more than that.
+    pub const MAX_OPS: usize = 12;
+
+    pub const MAX_TAG: usize = 1024;
+
+    pub const MAX_HANDLE: usize = 128;
+
+    pub const MAX_BITMAP: usize = 16;
+
     pub const MAX_REQUEST: usize = 65536;
 
     pub const TOO_LONG: usize = 65537;
+
+    // The minor version.
+    pub const MINOR: u32 = 2;
 
     // Refusals: the buffer is too short; what is given can't be written.
     pub const SHORT_BUFFER: u32 = 9;
@@ -86,7 +97,7 @@ fn put_header(out: &mut [u8], tag: &[u8], count: u32) -> usize
     ensures { λ r. ⌜ Written (headerLayout .write (now (tag .entry), (2, count))) (length (headerLayout .write (now (tag .entry), (2, count)))) 0 (now (out .entry)) (now (out .exit)) r ⌝ }
 {
     let minor = xdr::put_opaque(out, 0, tag);
-    let number = xdr::put_u32(out, minor, 2);
+    let number = xdr::put_u32(out, minor, Wrote::MINOR);
     xdr::put_u32(out, number, count)
 }
 
@@ -101,10 +112,10 @@ pub fn write_request(
     ensures { λ r. ⌜ WritePromise (now (tag .entry)) (given (now (lent .entry)) ops count) (now (out .entry)) r (now (out .exit)) ⌝ }
 {
     let n = tag.len();
-    if 12 < count {
+    if Wrote::MAX_OPS < count {
         return Wrote::refused(Wrote::NOT_WRITABLE);
     }
-    if 1024 < n {
+    if Wrote::MAX_TAG < n {
         return Wrote::refused(Wrote::NOT_WRITABLE);
     }
     let start = 12 + (n + xdr::padding(n));

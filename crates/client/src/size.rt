@@ -46,7 +46,7 @@ fn get_attr_size(lent: &[u8], d: Span) -> usize
     ensures { λ r. ⌜ r ≡ opSize (now (lent .entry)) (Operation.GetAttr d) ⌝ }
 {
     let len = d.len;
-    if 16 < len {
+    if Wrote::MAX_BITMAP < len {
         return Wrote::TOO_LONG;
     }
     if len % 4 != 0 {
@@ -62,7 +62,7 @@ fn put_fh_size(lent: &[u8], d: Span) -> usize
     ensures { λ r. ⌜ r ≡ opSize (now (lent .entry)) (Operation.PutFh d) ⌝ }
 {
     let len = d.len;
-    if 128 < len {
+    if Wrote::MAX_HANDLE < len {
         return Wrote::TOO_LONG;
     }
     if is_lent(lent, d) {

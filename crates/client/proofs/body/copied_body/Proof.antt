@@ -94,10 +94,7 @@ pub copied-body-spec : {M : Type 1} → statement M
 copied-body-spec =
     tie.close
     (tie.spec
-    (λ c κs. tt) (λ c. c .match .keys1) (λ c. c .match .keys2) (λ c κs. tt) returns
-    (λ c κs. tt) (λ c. c .match2 .keys1) (λ c. c .match2 .keys2) (λ c κs. tt) returns-2
-    (λ c κs. tt) (λ c. c .match3 .keys1) (λ c. c .match3 .keys2) (λ c κs. tt) returns-3
-    (λ c κs. tt) (λ c. c .match4 .keys1) (λ c. c .match4 .keys2) (λ c κs. tt) returns-4
-    (λ c κs. tt) (λ c. c .match5 .keys1) (λ c. c .match5 .keys2) (λ c κs. tt) returns-5
-    (λ c κs. tt) (λ c. c .match6 .keys1) (λ c. c .match6 .keys2) (λ c κs. tt) returns-6
-    returns-7)
+    (λ c κs. tt) (λ c. c .match .keys1) (λ c. c .match .keys2) (λ c κs. tt) returns (λ c κs. tt) (λ c. c .match2 .keys1) (λ c. c .match2 .keys2)
+    (λ c κs. tt) returns-2 (λ c κs. tt) (λ c. c .match3 .keys1) (λ c. c .match3 .keys2) (λ c κs. tt) returns-3 (λ c κs. tt) (λ c. c .match4 .keys1)
+    (λ c. c .match4 .keys2) (λ c κs. tt) returns-4 (λ c κs. tt) (λ c. c .match5 .keys1) (λ c. c .match5 .keys2) (λ c κs. tt) returns-5 (λ c κs. tt)
+    (λ c. c .match6 .keys1) (λ c. c .match6 .keys2) (λ c κs. tt) returns-6 returns-7)

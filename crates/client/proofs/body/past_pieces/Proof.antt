@@ -25,12 +25,6 @@ returns c =
     let e = ap ofEnd (c .enum-told .given .1) in
     e ∙ sym (end-fault (pieceLayout .read) _ _ _ (t .loop-test .taken) (sym (k .past-piece .ensures) ∙ e)) ∙ l .loop .inv
 
-sub-left : tie.Need-sub-left Inv-loop μ-loop
-sub-left c = omega arith
-
-loop-less : tie.Need-loop-less Inv-loop μ-loop
-loop-less c = omega arith
-
 loop-again : tie.Need-loop-again Inv-loop μ-loop
 loop-again c =
     let e = c .before in
@@ -48,14 +42,5 @@ pub past-pieces-spec : {M : Type 1} → statement M
 past-pieces-spec =
     tie.close
     (tie.spec
-    Inv-loop
-    μ-loop
-    loop-holds
-    (λ c κs. tt)
-    (λ c. c .match .keys1)
-    (λ c. c .match .keys2)
-    returns
-    sub-left
-    loop-less
-    loop-again
+    Inv-loop μ-loop loop-holds (λ c κs. tt) (λ c. c .match .keys1) (λ c. c .match .keys2) returns (λ c. omega arith) (λ c. omega arith) loop-again
     returns-2)

@@ -23,5 +23,4 @@ returns-3 c =
     c .hole-piece .ensures ∙ hole-kind _ _ (word-found (k .before .before .up-to .ensures) (k .k .given .1)) (i .if1 .left)
 
 pub piece-spec : {M : Type 1} → statement M
-piece-spec =
-    tie.close (tie.spec (λ c κs. tt) (λ c. c .match .keys1) (λ c. c .match .keys2) (λ c κs. tt) returns (λ c κs. tt) returns-2 (λ c κs. tt) returns-3)
+piece-spec = tie.close (tie.spec (λ c κs. tt) (λ c. c .match .keys1) (λ c. c .match .keys2) (λ c κs. tt) returns (λ c κs. tt) returns-2 (λ c κs. tt) returns-3)

@@ -28,5 +28,4 @@ returns-4 : tie.Need-returns-4
 returns-4 c = not-read _ _ _ _ (sym (c .before .before .read-result .ensures) ∙ ap (ofResultRead _) (c .enum-told .given .1))
 
 pub check-result-spec : {M : Type 1} → statement M
-check-result-spec =
-    tie.close (tie.spec (λ c κs. tt) (λ c. c .match .keys1) returns returns-2 (λ c. c .match .keys2) returns-3 returns-4)
+check-result-spec = tie.close (tie.spec (λ c κs. tt) (λ c. c .match .keys1) returns returns-2 (λ c. c .match .keys2) returns-3 returns-4)

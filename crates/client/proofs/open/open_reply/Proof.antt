@@ -52,8 +52,5 @@ pub open-reply-spec : {M : Type 1} → statement M
 open-reply-spec =
     tie.close
     (tie.spec
-    (λ c κs. tt) (λ c. c .match .keys1) (λ c. c .match .keys2)
-    (λ c κs. tt) returns
-    (λ c κs. tt) (λ c κs. tt) (λ c κs. tt) returns-2
-    (λ c κs. tt) (λ c κs. tt) returns-3
-    returns-4)
+    (λ c κs. tt) (λ c. c .match .keys1) (λ c. c .match .keys2) (λ c κs. tt) returns (λ c κs. tt) (λ c κs. tt) (λ c κs. tt) returns-2 (λ c κs. tt)
+    (λ c κs. tt) returns-3 returns-4)

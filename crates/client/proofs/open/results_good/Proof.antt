@@ -23,12 +23,6 @@ returns c =
     let a = l .before .before .before .args in
     sym (too-many _ _ _ _ (a .numbers .now) (l .loop .i) (omega arith) (c .if1 .taken)) ∙ l .loop .inv .1
 
-mul-check-result : tie.Need-mul-check-result Inv-loop μ-loop
-mul-check-result c = omega arith
-
-shared-slice-read-check-result : tie.Need-shared-slice-read-check-result Inv-loop μ-loop
-shared-slice-read-check-result c = omega arith
-
 returns-2 : tie.Need-returns-2 Inv-loop μ-loop
 returns-2 c =
     let k = c .before .before in
@@ -36,15 +30,6 @@ returns-2 c =
     let l = w .before .before .before .before in
     let a = l .before .before .before .args in
     sym (one-wrong _ _ _ _ (a .numbers .now) (l .loop .i) (omega arith) (omega arith) _ (w .wanted .ensures) (k .check-result .ensures) (c .enum-told .given .1)) ∙ l .loop .inv .1
-
-sub-left : tie.Need-sub-left Inv-loop μ-loop
-sub-left c = omega arith
-
-add-i : tie.Need-add-i Inv-loop μ-loop
-add-i c = omega arith
-
-loop-less : tie.Need-loop-less Inv-loop μ-loop
-loop-less c = omega arith
 
 loop-again : tie.Need-loop-again Inv-loop μ-loop
 loop-again c =
@@ -79,21 +64,5 @@ pub results-good-spec : {M : Type 1} → statement M
 results-good-spec =
     tie.close
     (tie.spec
-    Inv-loop
-    μ-loop
-    loop-holds
-    returns
-    mul-check-result
-    shared-slice-read-check-result
-    (λ c κs. tt)
-    (λ c κs. tt)
-    (λ c. c .match .keys1)
-    (λ c. c .match .keys2)
-    returns-2
-    sub-left
-    add-i
-    loop-less
-    loop-again
-    returns-3
-    returns-4
-    returns-5)
+    Inv-loop μ-loop loop-holds returns (λ c. omega arith) (λ c. omega arith) (λ c κs. tt) (λ c κs. tt) (λ c. c .match .keys1) (λ c. c .match .keys2)
+    returns-2 (λ c. omega arith) (λ c. omega arith) (λ c. omega arith) loop-again returns-3 returns-4 returns-5)

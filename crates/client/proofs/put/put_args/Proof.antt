@@ -147,11 +147,9 @@ pub put-args-spec : {M : Type 1} → statement M
 put-args-spec =
     tie.close
     (tie.spec
-    (λ c. search needs) put-bitmap-requires (λ c. search needs) (λ c. search needs) (λ c κs. search needs)
-    put-opaque-requires (λ c. search needs) put-read-requires (λ c. search needs) (λ c. search needs) (λ c. search needs)
-    put-write-requires (λ c. search needs) put-region-requires (λ c. search needs) put-copy-requires (λ c. search needs)
-    put-region-requires-2 (λ c. search needs) put-read-requires-2 (λ c. search needs) put-read-requires-3
-    (λ c. search needs) put-clone-requires (λ c. search needs) returns returns-2 (λ c. search needs) returns-3
-    (λ c. search needs) returns-4 returns-5 returns-6 (λ c. search needs) returns-7 (λ c. search needs) returns-8
-    (λ c. search needs) returns-9 (λ c. search needs) returns-10 (λ c. search needs) returns-11 (λ c. search needs)
-    returns-12 (λ c. search needs) returns-13)
+    (λ c. search needs) put-bitmap-requires (λ c. search needs) (λ c. search needs) (λ c κs. search needs) put-opaque-requires (λ c. search needs)
+    put-read-requires (λ c. search needs) (λ c. search needs) (λ c. search needs) put-write-requires (λ c. search needs) put-region-requires
+    (λ c. search needs) put-copy-requires (λ c. search needs) put-region-requires-2 (λ c. search needs) put-read-requires-2 (λ c. search needs)
+    put-read-requires-3 (λ c. search needs) put-clone-requires (λ c. search needs) returns returns-2 (λ c. search needs) returns-3 (λ c. search needs)
+    returns-4 returns-5 returns-6 (λ c. search needs) returns-7 (λ c. search needs) returns-8 (λ c. search needs) returns-9 (λ c. search needs) returns-10
+    (λ c. search needs) returns-11 (λ c. search needs) returns-12 (λ c. search needs) returns-13)

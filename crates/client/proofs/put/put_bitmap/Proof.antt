@@ -25,7 +25,4 @@ returns c =
     (λ h. written-sized (part-length lent (s .args .d) (s .pre .0)) (rw (k .before .part .ensures .bytes-are) at (k .put-bytes .ensures))))
 
 pub put-bitmap-spec : {M : Type 1} → statement M
-put-bitmap-spec =
-    tie.close
-    (tie.spec
-    (λ c. search needs) (λ c κs. search needs) (λ c κs. search needs) put-bytes-requires (λ c. search needs) returns)
+put-bitmap-spec = tie.close (tie.spec (λ c. search needs) (λ c κs. search needs) (λ c κs. search needs) put-bytes-requires (λ c. search needs) returns)

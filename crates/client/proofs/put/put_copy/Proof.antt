@@ -14,7 +14,4 @@ returns c =
     (λ h. written-more h (k .put-bool .ensures) (λ h. written-more h (y .put-bool2 .ensures) (λ h. n .put-u32 .ensures)))
 
 pub put-copy-spec : {M : Type 1} → statement M
-put-copy-spec =
-    tie.close
-    (tie.spec
-    (λ c κs. search needs) (λ c κs. search needs) (λ c κs. search needs) (λ c κs. search needs) (λ c. search needs) returns)
+put-copy-spec = tie.close (tie.spec (λ c κs. search needs) (λ c κs. search needs) (λ c κs. search needs) (λ c κs. search needs) (λ c. search needs) returns)

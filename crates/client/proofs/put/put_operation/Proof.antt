@@ -27,7 +27,4 @@ returns c =
     written-sized (sym e) (written-more (omega (arith, s .pre .1, e)) (rw (n .number .ensures (s .args .lent .now)) at (w .put-u32 .ensures)) (λ h. a .put-args .ensures))
 
 pub put-operation-spec : {M : Type 1} → statement M
-put-operation-spec =
-    tie.close
-    (tie.spec
-    (λ c κs. search needs) put-u32-requires put-args-requires (λ c. search needs) returns)
+put-operation-spec = tie.close (tie.spec (λ c κs. search needs) put-u32-requires put-args-requires (λ c. search needs) returns)

@@ -12,7 +12,4 @@ returns c =
     written-more (omega (arith, i .before .before .before .before .pre .1)) (i .put-stateid .ensures) (λ h. written-more h (o .put-u64 .ensures) (λ h. n .put-u32 .ensures))
 
 pub put-read-spec : {M : Type 1} → statement M
-put-read-spec =
-    tie.close
-    (tie.spec
-    (λ c κs. search needs) (λ c κs. search needs) (λ c κs. search needs) (λ c. search needs) returns)
+put-read-spec = tie.close (tie.spec (λ c κs. search needs) (λ c κs. search needs) (λ c κs. search needs) (λ c. search needs) returns)

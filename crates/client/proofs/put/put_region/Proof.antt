@@ -12,7 +12,4 @@ returns c =
     written-more (omega (arith, i .before .before .before .before .pre .1)) (i .put-stateid .ensures) (λ h. written-more h (o .put-u64 .ensures) (λ h. n .put-u642 .ensures))
 
 pub put-region-spec : {M : Type 1} → statement M
-put-region-spec =
-    tie.close
-    (tie.spec
-    (λ c κs. search needs) (λ c κs. search needs) (λ c κs. search needs) (λ c. search needs) returns)
+put-region-spec = tie.close (tie.spec (λ c κs. search needs) (λ c κs. search needs) (λ c κs. search needs) (λ c. search needs) returns)

@@ -43,5 +43,4 @@ pub put-write-spec : {M : Type 1} → statement M
 put-write-spec =
     tie.close
     (tie.spec
-    (λ c κs. search needs) (λ c κs. search needs) (λ c κs. search needs) (λ c κs. search needs) put-opaque-requires
-    (λ c. search needs) returns)
+    (λ c κs. search needs) (λ c κs. search needs) (λ c κs. search needs) (λ c κs. search needs) put-opaque-requires (λ c. search needs) returns)

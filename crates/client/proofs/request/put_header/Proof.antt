@@ -32,7 +32,4 @@ returns c =
     (λ h. written-more h (m .put-u32 .ensures) (λ h. n .put-u322 .ensures)))
 
 pub put-header-spec : {M : Type 1} → statement M
-put-header-spec =
-    tie.close
-    (tie.spec
-    put-opaque-requires put-u32-requires put-u32-requires-2 (λ c. search needs) returns)
+put-header-spec = tie.close (tie.spec put-opaque-requires put-u32-requires put-u32-requires-2 (λ c. search needs) returns)

@@ -59,5 +59,5 @@ pub put-operations-spec : {M : Type 1} → statement M
 put-operations-spec =
     tie.close
     (tie.spec
-    Inv-loop μ-loop loop-holds (λ c. search needs) (λ c. search needs) put-operation-requires (λ c. search needs)
-    (λ c. search needs) loop-again same-length returns)
+    Inv-loop μ-loop loop-holds (λ c. search needs) (λ c. search needs) put-operation-requires (λ c. search needs) (λ c. search needs) loop-again
+    same-length returns)

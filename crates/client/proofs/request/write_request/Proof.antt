@@ -71,6 +71,6 @@ pub write-request-spec : {M : Type 1} → statement M
 write-request-spec =
     tie.close
     (tie.spec
-    (λ c κs. search needs) returns (λ c κs. search needs) returns-2 (λ c κs. search needs) (λ c. search needs)
-    (λ c. search needs) (λ c κs. search needs) (λ c κs. search needs) returns-3 (λ c κs. search needs) returns-4
-    (λ c. search needs) put-header-requires put-operations-requires (λ c. search needs) returns-5)
+    (λ c κs. search needs) returns (λ c κs. search needs) returns-2 (λ c κs. search needs) (λ c. search needs) (λ c. search needs) (λ c κs. search needs)
+    (λ c κs. search needs) returns-3 (λ c κs. search needs) returns-4 (λ c. search needs) put-header-requires put-operations-requires (λ c. search needs)
+    returns-5)

@@ -38,7 +38,4 @@ returns-4 c =
     (rw (le-leb (e .d .len) 16 (l .before .before .if1 .left), eq-eqb (e .d .len % 4) 0 (l .before .if2 .left), sym (l .is-lent .ensures) ∙ c .if3 .left))
 
 pub get-attr-size-spec : {M : Type 1} → statement M
-get-attr-size-spec =
-    tie.close
-    (tie.spec
-    returns returns-2 (λ c κs. search needs) (λ c. search needs) returns-3 returns-4)
+get-attr-size-spec = tie.close (tie.spec returns returns-2 (λ c κs. search needs) (λ c. search needs) returns-3 returns-4)

@@ -28,7 +28,4 @@ returns-3 c =
     is-size (e .lent .now) (Operation.PutFh (e .d)) (handle-sized (e .lent .now) (e .d)) (rw (le-leb (e .d .len) 128 (t .if1 .left), sym (l .is-lent .ensures) ∙ c .if2 .left))
 
 pub put-fh-size-spec : {M : Type 1} → statement M
-put-fh-size-spec =
-    tie.close
-    (tie.spec
-    returns (λ c κs. search needs) (λ c κs. search needs) (λ c. search needs) (λ c. search needs) returns-2 returns-3)
+put-fh-size-spec = tie.close (tie.spec returns (λ c κs. search needs) (λ c κs. search needs) (λ c. search needs) (λ c. search needs) returns-2 returns-3)

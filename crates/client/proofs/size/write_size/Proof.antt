@@ -61,5 +61,5 @@ pub write-size-spec : {M : Type 1} → statement M
 write-size-spec =
     tie.close
     (tie.spec
-    returns returns-2 (λ c κs. search needs) returns-3 (λ c κs. search needs) (λ c. search needs) (λ c. search needs)
-    returns-4 (λ c κs. search needs) returns-5)
+    returns returns-2 (λ c κs. search needs) returns-3 (λ c κs. search needs) (λ c. search needs) (λ c. search needs) returns-4 (λ c κs. search needs)
+    returns-5)

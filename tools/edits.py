@@ -393,6 +393,133 @@ def reserved(block):
     yield fails(NOSPC, on(1, allocate(0, 1)), 5, 1)
 
 
+# COPY keeps holes (request K7). File 0 is the image: data in slots 1 and 3, holes elsewhere, and an uneven size in slot 5.
+
+def image(block):
+    return on(0, write(block, b"one"), write(3 * block, b"three"), allocate(5 * block, 9), deallocate(5 * block, 9))
+
+
+def sought(place, size):
+    """The end of a reply whose last operation is a SEEK that finds this place."""
+    return u32(place == size) + u64(place)
+
+
+def sparse(block):
+    """A pool of four: the image takes two, its copy the others."""
+    size = 5 * block + 9
+    yield store(3, 6, 4, block)
+    yield ok(image(block), 2, 0)
+    yield ok(both(0, 1, copy(0, 0, 0)), 4, 0)  # two blocks for six slots
+    for _, line, tail in walk(1, (HOLE, block), (DATA, block), (HOLE, block), (DATA, block), (HOLE, block + 9)):
+        yield ok(line, tail=tail)
+    yield ok(on(1, *[read(k * block, 6) for k in range(6)]), 4, 0)
+    yield fails(NOSPC, on(2, write(0, b"x")), 4, 0)
+    yield ok(both(0, 1, copy(0, 0, 0)), 4, 0)  # again, in a full pool
+    yield ok(both(0, 1, copy(0, block, block), seek(0, DATA)), 3, 0, tail=sought(3 * block, size))  # a hole over data
+    yield ok(on(2, write(0, b"x")), 4, 0)  # the block that it freed
+    yield fails(NOSPC, both(0, 1, copy(0, 0, 2 * block)), 4, 0)
+    yield ok(both(0, 1, copy(block, 2 * block, 2 * block), seek(0, DATA)), 4, 0,
+             tail=sought(2 * block, size))  # slot 2 takes what slot 3 frees
+    yield ok(both(0, 1, copy(0, 2 * block, 2 * block), seek(0, DATA)), 4, 0,
+             tail=sought(3 * block, size))  # and slot 3 what slot 2 frees
+    yield fails(NOSPC, both(0, 1, copy(block, 2 * block, 3 * block)), 4, 0)  # two take a block, one is freed
+    yield ok(on(1, read_plus(2 * block - 2, 4), read_plus(3 * block, 6)), 4, 0)  # nothing has changed
+    yield ok(both(0, 1, copy(4 * block, 3 * block, 0), seek(0, DATA)), 4, 0,
+             tail=sought(4 * block, size))  # to the image's end: slot 4 is cut, and takes what slot 3 frees
+    yield ok(both(0, 1, copy(4 * block, 4 * block, 0), seek(0, DATA)), 3, 0, tail=sought(size, size))  # to both ends
+
+
+def outside(block):
+    """Slots of which a byte below the size lies outside; and the last slot, to the old and the new end."""
+    size = 2 * block + 9
+    yield store(3, 6, 8, block)
+    yield ok(image(block), 2, 0)
+    yield ok(on(1, allocate(size - 1, 1), deallocate(0, LAST)), 2, 0)  # file 1 is holes
+    for source, target, count in (1, 1, block - 1), (0, 0, block - 1), (1, 1, block - 2):
+        yield ok(both(0, 1, copy(source, target, count), seek(0, HOLE)), 3, 0, tail=sought(block, size))  # holes in both
+        yield ok(both(0, 1, copy(0, 0, block), seek(0, DATA)), 2, 0, tail=sought(size, size))
+    yield ok(both(0, 1, copy(2 * block, 2 * block, 8), seek(0, DATA)), 3, 0, tail=sought(2 * block, size))
+    yield ok(both(0, 1, copy(2 * block, 2 * block, 9), seek(0, DATA)), 2, 0, tail=sought(size, size))  # to the old end
+    yield ok(on(1, write(size - 1, b"!")), 3, 0)
+    yield ok(both(0, 1, copy(2 * block, 2 * block, 10), seek(0, DATA)), 2, 0, tail=sought(size + 1, size + 1))  # the new
+    yield ok(both(0, 1, copy(2 * block, size + 1, 1), seek(0, DATA)), 3, 0, tail=sought(2 * block, size + 2))
+    yield ok(both(0, 1, copy(2 * block, 4 * block, 1), seek(3 * block, DATA)), 3, 0,
+             tail=sought(4 * block + 1, 4 * block + 1))  # past the end
+    yield ok(both(0, 1, copy(2 * block, 2 * block, block), seek(0, DATA)), 2, 0, tail=sought(4 * block + 1, 4 * block + 1))
+    yield ok(both(0, 1, copy(4 * block, block - 1, block + 2), seek(0, HOLE)), 4, 0,
+             tail=sought(block, 4 * block + 1))  # two edges and a middle
+    yield ok(both(0, 1, copy(4 * block, 0, block + 9), seek(0, HOLE)), 4, 0, tail=sought(0, 4 * block + 1))  # slot 1 is cut
+
+
+def apart(block):
+    """Offsets that differ within a block: a slot meets two slots of the image."""
+    yield store(3, 6, 8, block)
+    yield ok(image(block), 2, 0)
+    for source, used in ((1, 3), (block - 1, 3), (block + 1, 3), (2 * block - 1, 3), (2 * block + 1, 3), (4 * block - 1, 3),
+                         (4 * block + 1, 2), (4 * block + 8, 2)):
+        yield ok(both(0, 1, copy(source, 0, block), read_plus(0, 6), read_plus(block - 2, 4)), used, 0)
+        yield ok(on(1, deallocate(0, LAST)), 2, 0)
+    yield ok(both(0, 1, copy(4 * block + 1, block - 1, block + 1)), 3, 0)  # the first of two slots is cut
+    yield ok(on(1, seek(0, HOLE), seek(0, DATA), seek(block, DATA)), 3, 0, tail=sought(2 * block, 2 * block))
+    yield ok(both(0, 1, copy(3 * block + 1, 2 * block, 2 * block), seek(2 * block, HOLE)), 4, 0,
+             tail=sought(3 * block, 4 * block))  # a part of data, then holes
+    yield ok(both(0, 1, copy(1, 4 * block, block - 1), seek(4 * block, DATA)), 4, 0,
+             tail=sought(5 * block - 1, 5 * block - 1))  # the data behind it is not copied
+    yield ok(both(0, 1, copy(1, 4 * block, block), seek(4 * block, DATA)), 5, 0, tail=sought(4 * block, 5 * block))
+    yield ok(both(0, 1, copy(2 * block, 5 * block + 1, block - 1), seek(5 * block, DATA)), 6, 0,
+             tail=sought(5 * block, 6 * block))
+    yield ok(on(1, *[read_plus(k * block - 2, 4) for k in range(1, 6)], read_plus(0, 4)), 6, 0)
+
+
+def sparse_reserved(block):
+    """Reserved slots that become holes are owed, and a WRITE into them has its block."""
+    size = 5 * block + 9
+    yield store(3, 6, 6, block)
+    yield ok(image(block), 2, 0)
+    yield ok(on(1, allocate(0, 3 * block), write(0, b"a"), write(block, b"b")), 4, 1)
+    yield ok(both(0, 1, copy(0, 0, 3 * block), seek(0, DATA)), 3, 2, tail=sought(block, 3 * block))  # slot 0 is owed
+    yield ok(on(2, write(0, b"x")), 4, 2)
+    yield fails(NOSPC, on(2, write(block, b"x")), 4, 2)  # the pool is full
+    yield fails(NOSPC, both(0, 1, copy(0, 3 * block, block + 1)), 4, 2)  # a slot for data, which isn't reserved
+    yield ok(both(0, 1, copy(block, 0, block), read(0, 4)), 5, 1)  # into the hole that is
+    yield ok(on(1, write(2 * block, b"c"), read_plus(2 * block - 2, 4)), 6, 0)
+    yield ok(both(0, 1, copy(0, 2 * block, block), seek(2 * block, DATA)), 5, 1, tail=sought(3 * block, 3 * block))
+    yield fails(NOSPC, on(2, write(block, b"x")), 5, 1)  # the block is free, and owed
+    yield fails(NOSPC, both(0, 1, copy(0, 2 * block, 2 * block)), 5, 1)
+    yield ok(on(1, write(2 * block + 1, b"d"), read_plus(2 * block - 2, 6)), 6, 0)
+    yield ok(on(0, allocate(block, block)), 6, 0)  # the image's own slots are reserved
+    yield fails(NOSPC, on(0, allocate(2 * block, 1)), 6, 0)
+    yield ok(on(2, deallocate(0, LAST)), 5, 0)
+    yield ok(on(0, allocate(2 * block, 1)), 5, 1)
+    yield ok(both(0, 1, copy(2 * block, 2 * block, block), seek(2 * block, DATA)), 4, 2,
+             tail=sought(3 * block, 3 * block))  # a reserved hole is a hole
+    yield fails(NOSPC, both(0, 1, copy(0, 0, 0)), 4, 2)  # 4 used, 3 owed
+    yield ok(on(1, deallocate(2 * block, block)), 4, 1)
+    yield ok(both(0, 1, copy(0, 0, 0), seek(0, DATA), seek(4 * block, DATA)), 4, 2, tail=sought(size, size))
+
+
+def sparse_shared(block):
+    """Holes over blocks that the source, the target itself or another file holds too."""
+    yield store(3, 6, 4, block)
+    yield ok(image(block), 2, 0)
+    yield ok(both(0, 1, clone(0, 0, 4 * block)), 2, 0)
+    yield ok(both(0, 1, copy(0, block, block), seek(0, DATA)), 2, 0, tail=sought(3 * block, 4 * block))  # the image's block
+    yield ok(on(0, read(block, 4)), 2, 0)
+    yield ok(both(0, 1, copy(0, 0, 4 * block)), 4, 0)  # slot 3 takes a copy of its own
+    yield ok(both(1, 1, clone(block, 0, block)), 4, 0)  # slots 0 and 1 hold one block
+    yield ok(both(0, 1, copy(0, 0, 2 * block), seek(0, DATA)), 4, 0, tail=sought(block, 4 * block))  # slot 1 keeps it
+    yield ok(both(1, 1, clone(block, 2 * block, block)), 4, 0)
+    yield ok(both(0, 1, copy(block, block, 2 * block), seek(block, HOLE)), 4, 0, tail=sought(2 * block, 4 * block))
+    yield ok(both(1, 1, clone(block, 0, block), clone(block, 2 * block, block)), 4, 0)  # three slots
+    yield fails(NOSPC, both(0, 1, copy(block, 0, 2 * block)), 4, 0)  # slots 0 and 2 share
+    yield ok(both(1, 2, clone(0, 0, block)), 4, 0)
+    yield fails(NOSPC, both(0, 1, copy(0, 0, 3 * block)), 4, 0)  # slot 1 and the other file
+    yield ok(both(0, 1, copy(0, block, block), copy(0, 0, block), seek(0, DATA)), 4, 0, tail=sought(2 * block, 4 * block))
+    yield ok(on(2, deallocate(0, LAST)), 4, 0)
+    yield ok(both(0, 1, copy(2 * block, 2 * block, block), seek(0, DATA)), 3, 0,
+             tail=sought(3 * block, 4 * block))  # its last holder
+
+
 # Geometries and lines
 
 def geometries():
@@ -425,7 +552,8 @@ def geometries():
 CASES = [*sides(), *self_shared(512), *self_shared_reserved(512), *shared_edges(512), *shared_between(512)]
 for place, size_of_block in enumerate(BLOCKS):
     CASES += [*edges(size_of_block, place), *growth(size_of_block), *reads(size_of_block), *pool(size_of_block),
-              *reserved(size_of_block)]
+              *reserved(size_of_block), *sparse(size_of_block), *outside(size_of_block), *apart(size_of_block),
+              *sparse_reserved(size_of_block), *sparse_shared(size_of_block)]
 CASES += geometries()
 
 

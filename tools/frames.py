@@ -305,7 +305,8 @@ LINES = [
     (BADXDR, cut(both(0, 2, copy(0, 0, 0)), 4)),
     (NOTSUPP, compound(copy(0, 0, 0, servers=1))),  # a source server, its list unread
     (OK, both(0, 2, copy(2049, LAST, 0))),  # no bytes
-    (OK, both(0, 2, copy(0, 0, 0, ONES), read_plus(0, 2048), seek(0, HOLE))),  # to the end, the hole as zeros
+    (OK, both(0, 2, copy(0, 0, 0, ONES), read_plus(0, 2048), seek(0, HOLE))),  # to the end, the hole too
+    (OK, on(2, write(1024, bytes(1024)), read_plus(0, 2048), seek(0, HOLE))),  # zeros that are written are data
     (OK, both(0, 2, copy(510, TOP - 4, 4, consecutive=0, synchronous=0), read(TOP - 5, 8), read_plus(TOP - 514, 600))),
 
     # CLONE
@@ -366,8 +367,8 @@ LINES = [
     (OK, both(0, 3, clone(0, 2048, 512), write(2050, b"room"), read(2048, 5))),  # the target slot is
     (NOSPC, on(2, deallocate(512, 1))),  # a shared edge
     (OK, on(2, deallocate(513, 1023), read_plus(512, 1024))),  # a shared edge, and a block given back
-    (OK, both(2, 3, copy(0, 0, 0))),  # 25 used, 7 owed
-    (OK, both(2, 1, copy(0, 512, 3073))),  # 32 used
+    (OK, both(2, 3, copy(0, 0, 0))),  # 14 used, 18 owed: the holes of file 2 stay reserved in file 3
+    (OK, both(2, 1, copy(0, 512, 3073))),  # 18 used, 14 owed
     (NOSPC, on(0, write(1024, b"x"))),
     (OK, on(3, deallocate(0, 512))),
     (OK, on(0, write(1024, b"last"), read_plus(1020, 516))),  # the block given back, zeroed
@@ -390,6 +391,46 @@ LINES = [
     (OK, both(2, 3, clone(0, 0, 6 * BLOCK), *[write(BLOCK * slot, b"b") for slot in range(6, 10)], SPACE), space(TOP, 10, 4)),
     (OK, on(2, SPACE), space(TOP, 10, 4)),
     (OK, on(2, deallocate(0, LAST), putfh(3), SPACE), space(TOP, 10, 10)),
+    (OK, compound(*[putfh(file) + seek(0, HOLE) for file in range(4)], count=8)),
+
+    # COPY keeps holes (request K7): file 2 has data in slots 1 and 4
+    (OK, compound(*[putfh(file) + deallocate(0, LAST) for file in range(4)], SPACE, count=9), space(TOP, 0, 0)),
+    (OK, on(2, write(512, text(512)), write(2048, b"four"), SPACE), space(TOP, 2, 2)),
+    (OK, both(2, 0, copy(0, 0, 2560), read_plus(0, 2048), SPACE), space(2560, 2, 2)),  # two blocks for five slots
+    *walk(0, (HOLE, 512), (DATA, 512), (HOLE, 1024), (DATA, 512)),
+    (OK, both(2, 0, copy(1024, 2560, 100), SPACE), space(2660, 2, 2)),  # the last slot, to the new end
+    (OK, on(0, write(2600, b"last"), SPACE), space(2660, 3, 3)),
+    (OK, both(2, 0, copy(1024, 2560, 99), SPACE), space(2660, 3, 3)),  # a byte below the size lies outside
+    (OK, both(2, 0, copy(1948, 2560, 100), seek(2560, DATA)), u32(1) + u64(2660)),  # to the old end, up to data
+    (OK, both(2, 0, copy(1025, 1025, 511), read_plus(1024, 512), SPACE), space(2660, 3, 3)),  # a byte outside, both holes
+    (OK, both(2, 0, copy(1024, 1024, 512), seek(1024, DATA)), u32(0) + u64(2048)),  # none
+    (OK, both(2, 0, copy(1537, 1024, 512), read_plus(1024, 512), SPACE), space(2660, 3, 3)),  # a hole and a byte of data
+    (OK, both(2, 0, copy(1025, 1024, 512), SPACE), space(2660, 2, 2)),  # two holes
+    (OK, both(2, 0, copy(1023, 1024, 512), read_plus(1024, 512), SPACE), space(2660, 3, 3)),  # a byte of data and a hole
+    (OK, both(2, 0, copy(1025, 1024, 512), seek(1024, DATA)), u32(0) + u64(2048)),
+    (OK, on(2, write(3072, bytes(9)), savefh(), putfh(0), copy(3072, 1024, 512), SPACE), space(2660, 3, 3)),  # zeros
+    (OK, on(2, deallocate(3072, 9), savefh(), putfh(0), copy(3072, 1024, 512), SPACE), space(2660, 3, 3)),
+    (OK, on(2, deallocate(3072, 512), savefh(), putfh(0), copy(3072, 1024, 512), SPACE), space(2660, 2, 2)),
+
+    # the same over reserved slots and in a full pool
+    (OK, on(1, allocate(0, 1024), write(0, text(1024)), SPACE), space(3585, 2, 2)),
+    (OK, both(2, 1, copy(0, 0, 1024), seek(0, DATA), SPACE), space(3585, 2, 1 + 1)),  # slot 0 is owed
+    (OK, on(2, allocate(2560, 512), SPACE), space(TOP, 3, 2 + 1)),
+    (OK, both(2, 1, copy(2560, 0, 1024), SPACE, seek(0, DATA)), u32(1) + u64(3585)),  # reserved or not: both are owed
+    (OK, on(2, deallocate(2560, 512))),
+    (OK, on(3, *[write(BLOCK * slot, b"a") for slot in range(11)])),
+    (OK, on(3, *[write(BLOCK * slot, b"a") for slot in range(11, 16)])),
+    (OK, on(1, *[write(BLOCK * slot, b"b") for slot in range(2, 12)])),  # 30 used, 2 owed
+    (NOSPC, on(0, write(0, b"x"))),
+    (OK, on(1, write(510, b"room"), read_plus(508, 8))),  # into both holes: 32 used
+    (OK, both(2, 0, copy(2560, 512, 512), SPACE), space(2660, 1, 1)),  # a hole over data: 31 used
+    (OK, on(0, write(0, b"x"), SPACE), space(2660, 2, 2)),  # the block that was freed
+    (NOSPC, both(2, 0, copy(512, 512, 1024))),  # data and a hole onto two holes
+    (OK, both(2, 0, copy(512, 1536, 1024), seek(512, DATA), SPACE), space(2660, 2, 2)),  # slot 3 takes slot 4's block
+    (OK, both(2, 0, copy(0, 0, 1024), seek(0, DATA), SPACE), space(2660, 2, 2)),  # slot 1 takes slot 0's
+    (NOSPC, both(2, 0, copy(512, 1024, 2048))),  # two slots take a block, one gives its own
+    (OK, both(0, 0, clone(512, 0, 512), SPACE), space(2660, 3, 2)),  # slots 0 and 1 hold one block
+    (OK, both(2, 0, copy(512, 0, 1024), read_plus(508, 8), SPACE), space(2660, 2, 2)),  # slot 1 is a hole, slot 0 keeps it
     (OK, compound(*[putfh(file) + seek(0, HOLE) for file in range(4)], count=8)),  # no newline follows
 ]
 

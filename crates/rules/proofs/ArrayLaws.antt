@@ -15,15 +15,16 @@ use Rattle.xdr.specs.Bytes.{splice}
 use Rattle.xdr.proofs.BytesLaws.{length-splice, splice-in, splice-below, splice-above}
 use Rattle.rules.specs.Lists.{ceilDiv}
 use Rattle.rules.specs.Store.{Geometry, Store, sizeOf, byteAt, content, need}
-use Rattle.rules.specs.Edit.{within, edited, allocating, cloning, copying, deallocating, writing}
+use Rattle.rules.specs.Edit.{Edit, within, newByte, edited, allocating, cloning, copying, deallocating}
 use Rattle.rules.specs.Claim.{extend, arrayWrite, arrayZero}
 use Rattle.rules.proofs.SlotByteLaws.{length-tab, getD-tab}
 use Rattle.rules.proofs.SoundStore.{ceil-le, le-ceil, Sound, Edited}
-use Rattle.rules.proofs.WriteLaws.{inside, outside, write-bytes, write-edited}
+use Rattle.rules.proofs.WriteLaws.{inside, outside, Stores, stored-bytes, stored-edited}
+use Rattle.rules.proofs.CopyLaws.{copy-stores}
 use Rattle.rules.proofs.AllocateLaws.{allocate-bytes, allocate-edited}
-use Rattle.rules.proofs.DeallocateLaws.{deallocate-bytes, deallocate-edited}
+use Rattle.rules.proofs.DeallocateLaws.{size-stays, deallocate-stores}
 use Rattle.rules.proofs.CloneLaws.{clone-bytes, clone-edited}
-use Rattle.rules.proofs.EditForms.{edited-none, write-is, copy-is-write, deallocate-is}
+use Rattle.rules.proofs.EditForms.{edited-none}
 
 -- ---- places of a region
 
@@ -191,27 +192,32 @@ unfoldable pub arrayClone : ℕ → List ℕ → List ℕ → ℕ → ℕ → �
 arrayClone B src xs soff off n =
     cond (eqb n 0) xs (arrayZero (arrayWrite xs off (take n (drop soff src))) (off + n) (ceilDiv (off + n) B * B - (off + n)))
 
+-- an edit that stores the bytes d: WRITE and COPY
+pub stored-content : (g : Geometry) → 0 < g .B → (st : Store) → Sound g st → (e : Edit) → Stores g st e → e .file < g .F → (d : List ℕ) → length d ≡ e .end - e .off
+    → ((j : ℕ) → j < length d → newByte g st e (e .off + j) ≡ getD d j 0) → (e .off < e .end → e .end ≤ g .S * g .B) → need (edited g st e .words) ≤ g .N
+    → EditsArray g st (edited g st e) (e .file) (λ xs. arrayWrite xs (e .off) d)
+unfolding arrayWrite
+stored-content g pos st snd e s hf d len same fits room = go (decLt (e .off) (e .end))
+  where
+    old : List ℕ
+    old = content g st (e .file)
+
+    go : Dec (e .off < e .end) → EditsArray g st (edited g st e) (e .file) (λ xs. arrayWrite xs (e .off) d)
+    go (no z) =
+        rw (edited-none g st e (omega (arith, z)))
+        (unedited g st (e .file) (λ xs. arrayWrite xs (e .off) d) (rw (eq-eqb (length d) 0 (omega (arith, z, len)))))
+    go (yes l) =
+        let big : e .end ≤ g .S * g .B = fits l in
+        let end : e .off + length d ≡ e .end = omega (arith, len) in
+        edited-array g st snd _ (e .file) _ (λ xs. arrayWrite xs (e .off) d) (stored-edited g pos st snd e s hf l big room)
+        (omega (arith, big, snd .fits (e .file) hf)) (length-write old (e .off) d (omega (arith, len)) ∙ rw (length-content g st (e .file), end))
+        (λ i h u. stored-bytes g pos st snd e s hf l big room i u
+        ∙ at-places (e .off) (e .end) i (λ a b. ap (newByte g st e) (sym (add-sub-of-le a)) ∙ same (i - e .off) (omega (arith, len))) (sym (getD-content g st snd (e .file) i hf u))
+        ∙ sym (getD-write old (e .off) d (omega (arith, len)) i ∙ rw end))
+
 module _ (g : Geometry) (pos : 0 < g .B) (st : Store) (snd : Sound g st) (f : ℕ) (hf : f < g .F) where
   old : List ℕ
   old = content g st f
-
-  -- WRITE, and the write of COPY: `new` gives the n bytes d
-  pub write-content : (off n : ℕ) (d : List ℕ) (new : ℕ → ℕ) → length d ≡ n → ((j : ℕ) → j < n → new (off + j) ≡ getD d j 0)
-      → (0 < n → off + n ≤ g .S * g .B) → need (edited g st (writing f off (off + n) new) .words) ≤ g .N
-      → EditsArray g st (edited g st (writing f off (off + n) new)) f (λ xs. arrayWrite xs off d)
-  unfolding arrayWrite old
-  write-content off n d new len same fits room = go (decLt 0 n)
-    where
-      go : Dec (0 < n) → EditsArray g st (edited g st (writing f off (off + n) new)) f (λ xs. arrayWrite xs off d)
-      go (no z) = rw (edited-none g st (writing f off (off + n) new) (omega (arith, z))) (unedited g st f (λ xs. arrayWrite xs off d) (rw (eq-eqb (length d) 0 (omega (arith, z, len)))))
-      go (yes l) =
-          let big : off + n ≤ g .S * g .B = fits l in
-          let room′ = rw (write-is g st f off (off + n) new (omega arith)) at room in
-          edited-array g st snd _ f _ (λ xs. arrayWrite xs off d) (write-edited g pos st snd f off (off + n) hf (omega arith) big new room′)
-          (omega (arith, big, snd .fits f hf)) (length-write old off d (omega arith) ∙ rw (length-content g st f, len))
-          (λ i h u. write-bytes g pos st snd f off (off + n) hf (omega arith) big new room′ i u
-          ∙ at-places off (off + n) i (λ a b. ap new (sym (add-sub-of-le a)) ∙ same (i - off) (omega arith)) (sym (getD-content g st snd f i hf u))
-          ∙ sym (getD-write old off d (omega arith) i ∙ rw len))
 
   pub allocate-content : (off n : ℕ) → 0 < n → off + n ≤ g .S * g .B → EditsArray g st (edited g st (allocating f off (off + n))) f (λ xs. extend xs (off + n))
   unfolding old
@@ -231,12 +237,13 @@ module _ (g : Geometry) (pos : 0 < g .B) (st : Store) (snd : Sound g st) (f : �
       go : Dec (off < end) → EditsArray g st (edited g st (deallocating f off end)) f (λ xs. arrayZero xs off (end - off))
       go (no z) = rw (edited-none g st (deallocating f off end) (omega (arith, z))) (unedited g st f (λ xs. arrayZero xs off (end - off)) (zero-none old off (end - off) (omega (arith, z))))
       go (yes l) =
-          let room′ = rw (deallocate-is g st f off end l cut) at room in
+          let stores = deallocate-stores g st f off end cut in
+          let big : end ≤ g .S * g .B = le-trans cut (snd .fits f hf) in
           let all : off + (end - off) ≡ end = omega arith in
-          edited-array g st snd _ f _ (λ xs. arrayZero xs off (end - off)) (deallocate-edited g pos st snd f off end hf l cut room′)
-          (snd .fits f hf) (length-zero old off (end - off) (omega (arith, len)) ∙ len)
-          (λ i h u. deallocate-bytes g pos st snd f off end hf l cut room′ i u
-          ∙ rw (← getD-content g st snd f i hf u) (sym (getD-zero old off (end - off) (omega (arith, len)) i (omega (arith, len)) ∙ rw all)))
+          edited-array g st snd _ f _ (λ xs. arrayZero xs off (end - off)) (stored-edited g pos st snd (deallocating f off end) stores hf l big room)
+          (omega (arith, cut, snd .fits f hf)) (length-zero old off (end - off) (omega (arith, len)) ∙ len ∙ sym (size-stays g st f off end cut))
+          (λ i h u. stored-bytes g pos st snd (deallocating f off end) stores hf l big room i u
+          ∙ rw (← getD-content g st snd f i hf u) (sym (getD-zero old off (end - off) (omega (arith, len)) i (omega (arith, len, cut)) ∙ rw all)))
 
   -- n bytes from soff on of a source file s
   module _ (s soff n : ℕ) (hs : s < g .F) (source : soff + n ≤ sizeOf st s) where
@@ -256,9 +263,8 @@ module _ (g : Geometry) (pos : 0 < g .B) (st : Store) (snd : Sound g st) (f : �
         → EditsArray g st (edited g st (copying f off (off + n) s soff)) f (λ xs. arrayWrite xs off (take n (drop soff (content g st s))))
     unfolding src
     copy-content off fits room =
-        rw (copy-is-write g st f off (off + n) s soff)
-        (write-content off n (take n (drop soff src)) (λ p. byteAt g st s (soff + (p - off))) source-length
-        (λ j h. rw (add-sub-cancel-left off j) (sym (source-byte j h))) fits (rw (copy-is-write g st f off (off + n) s soff) at room))
+        stored-content g pos st snd (copying f off (off + n) s soff) (copy-stores g pos st f off (off + n) s soff) hf (take n (drop soff src))
+        (source-length ∙ sym (add-sub-cancel-left off n)) (λ j h. rw (add-sub-cancel-left off j) (sym (source-byte j (rw source-length at h)))) (λ l. fits (omega arith)) room
 
     module _ (off : ℕ) (se : soff % g .B ≡ 0) (de : off % g .B ≡ 0) (even : (n % g .B ≡ 0) ⊎ (soff + n ≡ sizeOf st s))
         (clear : (s ≢ f) ⊎ ((soff + n ≤ off) ⊎ (off + n ≤ soff))) (fits : 0 < n → off + n ≤ g .S * g .B) where

@@ -4,24 +4,22 @@ use mathlib.Core.Path.{_≡_, refl, _∙_}
 use mathlib.Core.Bool.{true}
 use mathlib.Core.Option.{some}
 use mathlib.Core.List.{List}
-use native.Mathlib.Nat.{le-refl, mul-le-mul-right}
+use mathlib.Core.Logic.{inl, inr}
+use native.Mathlib.Nat.{mul-le-mul-right}
 use native.Mathlib.Decide.{decLe, decLt}
 use native.Mathlib.Omega.{arith}
 use borrow.Author.Tests.{lt-ltb, le-leb}
 use lib.ListN.{length}
 use Rattle.rules.specs.Store.{Geometry, Store, sizeOf, wordOf}
-use Rattle.rules.specs.Edit.{firstSlot, slotCount, givesBack, edited, deallocating}
+use Rattle.rules.specs.Edit.{Edit, firstSlot, slotCount, covers, kindOf, plan, edited, deallocating}
 use Rattle.rules.specs.Operation.{DEALLOCATE}
 use Rattle.rules.specs.Run.{State, config, does, effect, Event}
 use Rattle.rules.specs.Claim.{OK}
 use Rattle.rules.specs.Emptying.{Empties, GivesBackRoom}
 use Rattle.rules.proofs.GeometryLaws.{Good, block-pos}
-use Rattle.rules.proofs.EditSteps.{ownUnless, giveBack, skips, planGiveBack, planDeallocate}
-use Rattle.rules.proofs.EditForms.{edited-none, deallocate-is}
-use Rattle.rules.proofs.PlanLaws.{each-keeps}
-use Rattle.rules.proofs.SlotByteLaws.{Local, plan-before, plan-after}
-use Rattle.rules.proofs.SoundStore.{Sound, slots-fit, plan-past, slot-in, slot-bytes}
-use Rattle.rules.proofs.DeallocateLaws.{giveBack-local, gave-back, was-given}
+use Rattle.rules.proofs.EditForms.{edited-none, edited-some}
+use Rattle.rules.proofs.KindLaws.{plan-long, plan-outside, plan-given}
+use Rattle.rules.proofs.SoundStore.{Sound, ceil-le, first-before, slots-fit, slot-in}
 use Rattle.rules.proofs.OperationLaws.{Ready, Performed, refused, nospc, done}
 use Rattle.rules.proofs.ChainLaws.{Step, as-op}
 use Rattle.rules.proofs.EmptyingLaws.{Emptied, gives-back}
@@ -29,51 +27,41 @@ use Rattle.rules.proofs.EmptyingLaws.{Emptied, gives-back}
 -- ---- a DEALLOCATE of the whole file
 
 -- it gives back every slot with a byte below the size
-gives-all : (g : Geometry) (size k : ℕ) → k * g .B < size → givesBack g size 0 size k ≡ true
-unfolding givesBack
+gives-all : (g : Geometry) (size k : ℕ) → k * g .B < size → covers g size 0 size k ≡ true
+unfolding covers
 gives-all g size k h = rw (le-leb 0 (k * g .B) (omega arith), lt-ltb (k * g .B) size h, le-leb (min (k * g .B + g .B) size) size (omega arith))
 
 module _ (g : Geometry) (pos : 0 < g .B) (st : Store) (snd : Sound g st) (f : ℕ) (hf : f < g .F) where
   abbrev size : ℕ
   size = sizeOf st f
 
-  abbrev step : List ℕ → ℕ → List ℕ
-  step = giveBack (f * g .S) (givesBack g size 0 size)
-
-  abbrev local : Local (f * g .S) step
-  local = giveBack-local (f * g .S) (givesBack g size 0 size)
+  abbrev emptying : Edit
+  emptying = deallocating f 0 size
 
   module _ (some-byte : 0 < size) where
-    -- every slot of the region is given back, so none gets a block of its own
-    plan-all : planDeallocate g (st .words) f size 0 size ≡ planGiveBack g (st .words) f size 0 size
-    unfolding planDeallocate skips
-    plan-all =
-        each-keeps (λ x. x ≡ planGiveBack g (st .words) f size 0 size) (ownUnless (skips g (st .words) f size 0 size) (f * g .S)) (slotCount g 0 size) (firstSlot g 0) _
-        (λ x k l u e. rw (gives-all g size k (slot-bytes g pos 0 size some-byte (snd .fits f hf) k l u .1)) e) refl
-
     inside : f * g .S + (firstSlot g 0 + slotCount g 0 size) ≤ length (st .words)
     inside = omega (arith, slots-fit g pos 0 size some-byte (snd .fits f hf), snd .slots, mul-le-mul-right (g .S) hf)
 
     -- a slot at or past the size was 0, any other is given back
-    own-back : (k : ℕ) → k < g .S → wordOf g (planGiveBack g (st .words) f size 0 size) f k ≡ 0
-    unfolding planGiveBack
+    own-back : (k : ℕ) → k < g .S → wordOf g (plan g st emptying) f k ≡ 0
+    unfolding kindOf
     own-back k hk = go (decLe size (k * g .B))
       where
-        go : Dec (size ≤ k * g .B) → wordOf g (planGiveBack g (st .words) f size 0 size) f k ≡ 0
-        go (yes l) = plan-past g pos 0 size some-byte (snd .fits f hf) f step local (st .words) k l ∙ snd .beyond f k hf hk l
+        go : Dec (size ≤ k * g .B) → wordOf g (plan g st emptying) f k ≡ 0
+        go (yes l) =
+            plan-outside g st emptying (f * g .S + k) (inr (omega (arith, ceil-le pos size k l, first-before g pos 0 size some-byte (snd .fits f hf)))) ∙ snd .beyond f k hf hk l
         go (no d) =
             let h : k * g .B < size = omega (arith, d) in
             let q = slot-in g pos 0 size some-byte (snd .fits f hf) k (omega arith) h in
-            was-given (f * g .S) (givesBack g size 0 size) (slotCount g 0 size) (firstSlot g 0) (st .words) inside k (q .0) (q .1) (gives-all g size k h)
+            plan-given g st emptying inside k (q .0) (q .1) (rw (gives-all g size k h))
 
     -- the plan of a file with at least one byte
-    emptied-some : Emptied g f (st .words) (planGiveBack g (st .words) f size 0 size)
-    unfolding planGiveBack
+    emptied-some : Emptied g f (st .words) (plan g st emptying)
     emptied-some = record {
-      slots = gave-back (f * g .S) (givesBack g size 0 size) (slotCount g 0 size) (firstSlot g 0) (st .words) inside .slots;
+      slots = plan-long g st emptying;
       own = own-back;
-      before = λ p h. plan-before (f * g .S) step local (slotCount g 0 size) (firstSlot g 0) p (st .words) (omega arith);
-      behind = λ p h. plan-after (f * g .S) step local (slotCount g 0 size) (firstSlot g 0) p (st .words) (omega (arith, slots-fit g pos 0 size some-byte (snd .fits f hf)));
+      before = λ p h. plan-outside g st emptying p (inl (omega arith));
+      behind = λ p h. plan-outside g st emptying p (inr (omega (arith, slots-fit g pos 0 size some-byte (snd .fits f hf))));
     }
 
   -- and the edit of any file: one of size 0 has only zeros already
@@ -81,7 +69,7 @@ module _ (g : Geometry) (pos : 0 < g .B) (st : Store) (snd : Sound g st) (f : �
   edit-empties = go (decLt 0 size)
     where
       go : Dec (0 < size) → Emptied g f (st .words) (edited g st (deallocating f 0 size) .words)
-      go (yes l) = rw (deallocate-is g st f 0 size l (le-refl size), plan-all l) (emptied-some l)
+      go (yes l) = rw (edited-some g st emptying l) (emptied-some l)
       go (no d) = rw (edited-none g st (deallocating f 0 size) (omega (arith, d)))
           record { slots = refl; own = λ k hk. snd .beyond f k hf hk (omega (arith, d)); before = λ p h. refl; behind = λ p h. refl }
 

@@ -1,4 +1,5 @@
 pub mod AllocateLaws
+pub mod AloneLaws
 pub mod AnswerLaws
 pub mod ArrayLaws
 pub mod AttributeLaws
@@ -6,6 +7,7 @@ pub mod BodyLaws
 pub mod ChainLaws
 pub mod ClaimProof
 pub mod CloneLaws
+pub mod CopyLaws
 pub mod CountLaws
 pub mod DeallocateLaws
 pub mod EditForms
@@ -20,6 +22,7 @@ pub mod Frames
 pub mod GeometryLaws
 pub mod Instances
 pub mod ItemLaws
+pub mod KindLaws
 pub mod NeedLaws
 pub mod OperationLaws
 pub mod PieceLaws

@@ -15,7 +15,7 @@ use Rattle.xdr.specs.Decode.{value}
 use Rattle.xdr.proofs.EncodeLaws.{length-u32, length-opaque}
 use Rattle.rules.specs.Lists.{first, tabulate}
 use Rattle.rules.specs.Store.{Geometry, Store, sizeOf, wordOf, need, fitsPool, byteAt, content}
-use Rattle.rules.specs.Edit.{Edit, edited}
+use Rattle.rules.specs.Edit.{Edit, edited, writing}
 use Rattle.rules.specs.Read.{readCount, atEnd}
 use Rattle.rules.specs.Operation.{NOSPC, Op, GETATTR, GETFH, RESTOREFH, SAVEFH, PUTFH, READ, READ-PLUS, WRITE, ALLOCATE, DEALLOCATE, SEEK, COPY, CLONE, opNumber, op, readReply, readResult}
 use Rattle.rules.specs.Run.{State, noFile, fileOf, zeroId, errors, Config, Does, sets, shows, edits, does, editOf, effect, body, Event, failed, countedAfter, perform}
@@ -23,8 +23,7 @@ use Rattle.rules.specs.Claim.{arrayEdit}
 use Rattle.rules.proofs.SlotByteLaws.{length-tab, getD-tab}
 use Rattle.xdr.proofs.BoolLaws.{and-false}
 use Rattle.rules.proofs.SoundStore.{Sound, slot-in, slot-bytes}
-use Rattle.rules.proofs.EditForms.{write-is}
-use Rattle.rules.proofs.WriteLaws.{inside, write-edited, write-bytes, write-room}
+use Rattle.rules.proofs.WriteLaws.{inside, stored-edited, stored-bytes, write-stores, write-room}
 use Rattle.rules.proofs.AllocateLaws.{allocate-reserved}
 use Rattle.rules.proofs.EditLaws.{Lawful, writes, copies, clones, allocates, deallocates, edit-change, Back, edit-r, edit-content}
 use Rattle.rules.proofs.ErrorLaws.{known, OwnError, first-known, put-clear, write-clear, allocate-clear, deallocate-clear, copy-clear, clone-clear, meant}
@@ -260,9 +259,8 @@ module _ (g : Geometry) (wide : 512 ≤ g .B) (x : State) (r : Ready g x) where
       → need (countedAfter g x (WRITE i o s d)) ≤ g .N
   unfolding effect does
   write-has-room i o s d hf l fits reserved =
-      rw (write-is g (x .store) (fileOf (x .current)) o (o + length d) (λ p. getD d (p - o) 0) (omega arith), countedAfter)
-      (write-room g bytes (x .store) (r .sound) (fileOf (x .current)) o (o + length d) hf (omega arith) fits (λ p. getD d (p - o) 0)
-      (λ q a b. let z = slot-bytes g bytes o (o + length d) (omega arith) fits q a b in reserved q (z .1) (z .0)))
+      write-room g bytes (x .store) (r .sound) (fileOf (x .current)) o (o + length d) hf (omega arith) fits (λ p. getD d (p - o) 0)
+      (λ q a b. let z = slot-bytes g bytes o (o + length d) (omega arith) fits q a b in reserved q (z .1) (z .0))
 
   -- the bytes after a WRITE
   pub write-done : (i : List ℕ) (o s : ℕ) (d : List ℕ) → first (errors g x (WRITE i o s d)) ≡ 0 → need (countedAfter g x (WRITE i o s d)) ≤ g .N
@@ -273,10 +271,11 @@ module _ (g : Geometry) (wide : 512 ≤ g .B) (x : State) (r : Ready g x) where
       let c = write-clear g x i o s d h in
       let hf = file-ok (g .F) (x .current) (c .file) (r .current) in
       let fits : o + length d ≤ g .S * g .B = c .fits (omega arith) in
-      let room′ = rw (write-is g (x .store) (fileOf (x .current)) o (o + length d) (λ p. getD d (p - o) 0) (omega arith), countedAfter) at room in (
-        write-bytes g bytes (x .store) (r .sound) (fileOf (x .current)) o (o + length d) hf (omega arith) fits (λ p. getD d (p - o) 0) room′ p (omega arith)
-            ∙ rw (inside o (o + length d) p l u),
-        omega (arith, write-edited g bytes (x .store) (r .sound) (fileOf (x .current)) o (o + length d) hf (omega arith) fits (λ p. getD d (p - o) 0) room′ .size),
+      let f : ℕ = fileOf (x .current) in
+      let e : Edit = writing f o (o + length d) (λ p. getD d (p - o) 0) in
+      let s = write-stores g (x .store) f o (o + length d) (λ p. getD d (p - o) 0) in (
+        stored-bytes g bytes (x .store) (r .sound) e s hf (omega arith) fits room p (omega arith) ∙ rw (inside o (o + length d) p l u),
+        omega (arith, stored-edited g bytes (x .store) (r .sound) e s hf (omega arith) fits room .size),
       )
 
   pub read-passes : (o n : ℕ) → noFile (x .current) ≡ false → first (errors g x (READ zeroId o n)) ≡ 0

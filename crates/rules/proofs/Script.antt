@@ -6,7 +6,7 @@ use Rattle.xdr.specs.Encode.{u32, concatMap, be, u64, bool, opaque, array}
 use Rattle.xdr.specs.Bytes.{partOf, splice}
 use Rattle.xdr.specs.Decode.{fixedAt, fixed, number, upTo, padded, opaqueAt, opaqueUpTo, arrayAt, arrayUpTo}
 use Rattle.rules.specs.Store.{Geometry, goodBlockSize, goodGeometry, Store, goodLengths, emptyStore, used, owed, lowestFree, byteAt, soundFile, sound}
-use Rattle.rules.specs.Edit.{givesBack, kindOf, owned, become, pass, plan, storeSlot, fillSlot, editBytes, edited}
+use Rattle.rules.specs.Edit.{covers, fromHoles, clears, kindOf, owned, become, pass, plan, storeSlot, fillSlot, editBytes, edited}
 use Rattle.rules.specs.Read.{join, pieces, seekFrom}
 use Rattle.rules.specs.Attributes.{spaceUsed, freedBlocks, spaceFreed}
 use Rattle.rules.specs.Operation.{Op, PUTFH, SAVEFH, WRITE, ALLOCATE, CLONE, itemAt, items, header, requestBytes, getattrReply, readReply, readPlusReply, seekReply}
@@ -85,5 +85,5 @@ machineTold r = map told (machine serving (empty (r .pool)) (map (call (r .pool)
 -- ---- computing: `unfolding rules` opens every definition of the rules
 
 unfoldable pub rules : Unit {0}
-unfolding partOf splice be u32 u64 bool opaque array fixedAt fixed number upTo padded opaqueAt opaqueUpTo arrayAt arrayUpTo goodBlockSize goodGeometry goodLengths emptyStore used owed lowestFree byteAt soundFile sound givesBack kindOf owned become pass plan storeSlot fillSlot editBytes edited join pieces seekFrom spaceUsed freedBlocks spaceFreed itemAt items header requestBytes getattrReply readReply readPlusReply seekReply errors does editOf effect body perform reached compound replyBytes served refusal answerNoPlace faultAt lastFault placeOf answer makeRefusal madeStore storeRefusal usedCount owedCount slotRefusal slotView slotIsHole ranCall machine events history editDone extend arrayWrite arrayZero arrayAct arrayEdit arrayAfter owedForFile
+unfolding partOf splice be u32 u64 bool opaque array fixedAt fixed number upTo padded opaqueAt opaqueUpTo arrayAt arrayUpTo goodBlockSize goodGeometry goodLengths emptyStore used owed lowestFree byteAt soundFile sound covers fromHoles clears kindOf owned become pass plan storeSlot fillSlot editBytes edited join pieces seekFrom spaceUsed freedBlocks spaceFreed itemAt items header requestBytes getattrReply readReply readPlusReply seekReply errors does editOf effect body perform reached compound replyBytes served refusal answerNoPlace faultAt lastFault placeOf answer makeRefusal madeStore storeRefusal usedCount owedCount slotRefusal slotView slotIsHole ranCall machine events history editDone extend arrayWrite arrayZero arrayAct arrayEdit arrayAfter owedForFile
 rules = tt

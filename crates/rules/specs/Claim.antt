@@ -12,7 +12,7 @@ use Rattle.xdr.specs.Encode.{concatMap}
 use Rattle.xdr.specs.Decode.{got, fault}
 use Rattle.rules.specs.Lists.{first, tabulate, ceilDiv}
 use Rattle.rules.specs.Store.{Geometry, goodGeometry, Store, sizeOf, goodLengths, fitsPool, bytesFrom, content, sound}
-use Rattle.rules.specs.Edit.{Edit, write, copy, clone, allocate, deallocate, givesBack}
+use Rattle.rules.specs.Edit.{Edit, write, copy, clone, allocate, deallocate, covers}
 use Rattle.rules.specs.Read.{granted, readCount, atEnd, holeAt, Piece, readPieces}
 use Rattle.rules.specs.Operation.{NOSPC, Op, READ, READ-PLUS, WRITE, ALLOCATE, op, bad, header, readResult, readPlusReply}
 use Rattle.rules.specs.Run.{State, zeroId, errors, Event, editOf, countedAfter}
@@ -234,7 +234,7 @@ Edits g f z e = (editDone g z ≡ some e) × (e .file ≡ f)
 
 -- *Gives back* (document 01's term): z is a DEALLOCATE of file f, answered OK, that gives back slot k.
 abbrev pub GivesBack : Geometry → ℕ → ℕ → Event → Type 0
-GivesBack g f k z = (e : Edit) × Edits g f z e × (e .act ≡ deallocate) × (givesBack g (sizeOf (z .before .store) f) (e .off) (e .end) k ≡ true)
+GivesBack g f k z = (e : Edit) × Edits g f z e × (e .act ≡ deallocate) × (covers g (sizeOf (z .before .store) f) (e .off) (e .end) k ≡ true)
 
 -- *Right after* (document 01's term): no edit with file f as target is answered OK in between; anything else may stand there.
 abbrev pub RightAfter : Geometry → ℕ → List Event → Type 0

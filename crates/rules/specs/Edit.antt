@@ -1,13 +1,14 @@
 -- The edits (document 01, "The edits").
 -- An edit gives the store that it would leave in a pool without end; whether the pool has room is judged afterwards, on those words.
 use Prim.Native.Nat.{ℕ, suc, pred, _+_, _-_, _*_, _/_, _%_, min, max}
-use mathlib.Core.Bool.{Bool, true, false, cond, _&&_, not}
+use mathlib.Core.Bool.{Bool, true, false, cond, _&&_, _||_, not}
 use mathlib.Core.List.{List, [], _∷_}
 use lib.ListN.{getD, set, take, drop, replicate}
 use lib.Dec.{leb, ltb}
 use Rattle.xdr.specs.Bytes.{splice}
-use Rattle.rules.specs.Lists.{each, ceilDiv}
+use Rattle.rules.specs.Lists.{each, allTo, ceilDiv}
 use Rattle.rules.specs.Store.{Geometry, Store, word, isHole, sizeOf, wordOf, holeOrShared, lowestFree, byteAt}
+use Rattle.rules.specs.Read.{holeAt}
 
 -- what an edit does at the places of its region
 pub data Act : Type 0 where
@@ -62,27 +63,45 @@ pub data Kind : Type 0 where
   owns : Kind
   -- it is given back: word 0
   given : Kind
+  -- it becomes a hole and keeps its r
+  cleared : Kind
   -- it takes the block, or the hole, of the slot with that index, and keeps its r
   shares : ℕ → Kind
   -- its r is set
   reserved : Kind
   stays : Kind
 
--- DEALLOCATE gives back slot k: all of the slot's bytes below the size, at least one, lie in the region
-unfoldable pub givesBack : Geometry → ℕ → ℕ → ℕ → ℕ → Bool
-givesBack g size off end k = leb off (k * g .B) && ltb (k * g .B) size && leb (min (k * g .B + g .B) size) end
+-- all of slot k's bytes below the size, at least one, lie in the region
+unfoldable pub covers : Geometry → ℕ → ℕ → ℕ → ℕ → Bool
+covers g size off end k = leb off (k * g .B) && ltb (k * g .B) size && leb (min (k * g .B + g .B) size) end
+
+-- the size that an edit leaves: the larger of the old size and the end; DEALLOCATE's region is cut at the size, which so stays
+abbrev pub sizeAfter : Store → Edit → ℕ
+sizeAfter st e = max (sizeOf st (e .file)) (e .end)
+
+-- the place of the source that belongs to place p of the region
+abbrev pub sourcePlace : Edit → ℕ → ℕ → ℕ
+sourcePlace e soff p = soff + (p - e .off)
+
+-- each place of slot k in the region is matched by a place of file s that lies in a hole
+unfoldable pub fromHoles : Geometry → Store → Edit → ℕ → ℕ → ℕ → Bool
+fromHoles g st e s soff k = allTo (g .B) (λ j. let p = k * g .B + j in not (within (e .off) (e .end) p) || holeAt g st s (sourcePlace e soff p))
+
+-- COPY keeps holes (request K7): slot k's bytes below the new size all lie in the region, and are matched by holes alone
+unfoldable pub clears : Geometry → Store → Edit → ℕ → ℕ → ℕ → Bool
+clears g st e s soff k = covers g (sizeAfter st e) (e .off) (e .end) k && fromHoles g st e s soff k
 
 -- slot k of the file; CLONE's source slots lie as its target slots do
 unfoldable pub kindOf : Geometry → Store → Edit → ℕ → Kind
 kindOf g st e k = elim (e .act) [
   | write new ↦ owns
-  | copy s soff ↦ owns
+  | copy s soff ↦ cond (clears g st e s soff k) cleared owns
   | clone s soff ↦ shares (s * g .S + soff / g .B + (k - firstSlot g (e .off)))
   | allocate ↦ reserved
-  | deallocate ↦ cond (givesBack g (sizeOf st (e .file)) (e .off) (e .end) k) given (cond (isHole (wordOf g (st .words) (e .file) k)) stays owns)
+  | deallocate ↦ cond (covers g (sizeOf st (e .file)) (e .off) (e .end) k) given (cond (isHole (wordOf g (st .words) (e .file) k)) stays owns)
 ]
 
--- ---- the slot words: given-back slots first, then the others, each in rising order
+-- ---- the slot words: given-back and cleared slots first, then the others, each in rising order
 
 -- the word of a slot that is to have an unshared block: its own, or the lowest free one where it is a hole or shared
 unfoldable pub owned : List ℕ → ℕ → ℕ
@@ -92,20 +111,23 @@ owned ws w = cond (holeOrShared ws w) (word (suc (lowestFree ws)) (w % 2)) w
 unfoldable pub become : Kind → List ℕ → ℕ → List ℕ
 become owns ws i = set ws i (owned ws (getD ws i 0))
 become given ws i = set ws i 0
+become cleared ws i = set ws i (word 0 (getD ws i 0 % 2))
 become (shares p) ws i = set ws i (word (getD ws p 0 / 2) (getD ws i 0 % 2))
 become reserved ws i = set ws i (word (getD ws i 0 / 2) 1)
 become stays ws i = ws
 
-abbrev pub isGiven : Kind → Bool
-isGiven owns = false
-isGiven given = true
-isGiven (shares p) = false
-isGiven reserved = false
-isGiven stays = false
+abbrev pub goesFirst : Kind → Bool
+goesFirst owns = false
+goesFirst given = true
+goesFirst cleared = true
+goesFirst (shares p) = false
+goesFirst reserved = false
+goesFirst stays = false
 
 abbrev pub isOwned : Kind → Bool
 isOwned owns = true
 isOwned given = false
+isOwned cleared = false
 isOwned (shares p) = false
 isOwned reserved = false
 isOwned stays = false
@@ -115,7 +137,7 @@ unfoldable pub pass : Geometry → Store → Edit → (Kind → Bool) → List �
 pass g st e p ws = eachSlot g e (λ ws k. let c = kindOf g st e k in cond (p c) (become c ws (e .file * g .S + k)) ws) ws
 
 unfoldable pub plan : Geometry → Store → Edit → List ℕ
-plan g st e = pass g st e (λ c. not (isGiven c)) (pass g st e isGiven (st .words))
+plan g st e = pass g st e (λ c. not (goesFirst c)) (pass g st e goesFirst (st .words))
 
 -- ---- the bytes
 
@@ -136,7 +158,7 @@ storeSlot g region new w w′ m k = splice m (pred (w′ / 2) * g .B) (overlay r
 abbrev pub newByte : Geometry → Store → Edit → ℕ → ℕ
 newByte g st e p = elim (e .act) [
   | write new ↦ new p
-  | copy s soff ↦ byteAt g st s (soff + (p - e .off))
+  | copy s soff ↦ byteAt g st s (sourcePlace e soff p)
   | clone s soff ↦ 0
   | allocate ↦ 0
   | deallocate ↦ 0
@@ -152,8 +174,7 @@ editBytes g st e = eachSlot g e (fillSlot g st e) (st .mem)
 
 -- ---- the store after the edit
 
--- the size is the larger of the old size and the end; DEALLOCATE's region is cut at the size, which so stays. An edit of no bytes changes
--- nothing.
+-- an edit of no bytes changes nothing
 unfoldable pub edited : Geometry → Store → Edit → Store
 edited g st e = cond (leb (e .end) (e .off)) st
-    (record { sizes = set (st .sizes) (e .file) (max (sizeOf st (e .file)) (e .end)); words = plan g st e; mem = editBytes g st e })
+    (record { sizes = set (st .sizes) (e .file) (sizeAfter st e); words = plan g st e; mem = editBytes g st e })

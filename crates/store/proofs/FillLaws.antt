@@ -10,7 +10,8 @@ use lib.ListN.{length, getD, take, drop, length-drop}
 use lib.Seq.{length-take-le}
 use Rattle.rules.specs.Lists.{each}
 use Rattle.rules.specs.Store.{Geometry, Store, sizeOf, wordOf, slotByte, byteAt}
-use Rattle.rules.specs.Edit.{Edit, Kind, owns, given, shares, reserved, stays, within, firstSlot, slotCount, kindOf, plan, storeSlot, newByte, isOwned, fillSlot, editBytes}
+use Rattle.rules.specs.Edit.{Edit, Kind, owns, given, cleared, shares, reserved, stays, within, firstSlot, slotCount, kindOf, plan, storeSlot, newByte, isOwned, fillSlot, editBytes}
+use Rattle.rules.proofs.KindLaws.{plan-long, plan-other}
 use Rattle.rules.proofs.PlanLaws.{InPool}
 use Rattle.rules.proofs.GeometryLaws.{Good, good, block-pos}
 use Rattle.rules.proofs.SoundStore.{Sound, div-lt, apart, in-file, slots-fit}
@@ -25,13 +26,14 @@ use Rattle.store.specs.Fill.{PlannedEdit, Fills, Filling, SlotFills, Slo
 use Rattle.store.proofs.StoreLaws.{slot-touched, Storing, storing-start, storing-turn, storing-end, each-from, word-cut}
 use Rattle.store.proofs.CopyBytes.{slot-same, other-block}
 use Rattle.store.proofs.KindLaws.{applies-slots}
-use Rattle.store.proofs.AloneLaws.{Alone, plan-long, plan-other, plan-alone}
+use Rattle.rules.proofs.AloneLaws.{Alone, plan-alone}
 
 -- ---- the rules' bytes
 
 owned-is : (c : Kind) → isOwned c ≡ true → c ≡ owns
 owned-is owns e = refl
 owned-is given e = let z : _≡_ {A = ℕ} 0 1 = cc in absurd (omega arith)
+owned-is cleared e = let z : _≡_ {A = ℕ} 0 1 = cc in absurd (omega arith)
 owned-is (shares p) e = let z : _≡_ {A = ℕ} 0 1 = cc in absurd (omega arith)
 owned-is reserved e = let z : _≡_ {A = ℕ} 0 1 = cc in absurd (omega arith)
 owned-is stays e = let z : _≡_ {A = ℕ} 0 1 = cc in absurd (omega arith)
@@ -164,17 +166,13 @@ module _ {g : Geometry} {st : Store} {e : CodeEdit.Edit} {d : List ℕ} {size : 
         → m ≡ storeSlot g (within (e .off) (e .off + length d)) (λ p. getD d (p - e .off) 0) w (wordOf g words (e .file) k) mem k → m ≡ fillSlot g st (editFrom e d) mem k
     write-fills s = fill-owned write-owns (λ p. getD d (p - e .off) 0) (λ p l u. byte-is is p) (rw (act-known is) s)
 
-  module _ {s : Source} (is : e .act ≡ Code.Act.Copy s) where
-    copy-owns : kindOf g st (editFrom e d) k ≡ owns
-    unfolding kindOf
-    copy-owns = kind-is is refl
-
+  module _ {s : Source} (is : e .act ≡ Code.Act.Copy s) (o : kindOf g st (editFrom e d) k ≡ owns) where
     source-fits : s .off + (e .end - e .off) ≤ g .S * g .B
     source-fits = omega (arith, act-known is .source .inside, snd known .fits (s .file) (act-known is .source .file))
 
     pub copy-asks : {room : ℕ} → 4096 ≤ room → SlotCopy g words mem (s .file) (s .off) w (wordOf g words (e .file) k) k (e .off) (e .end) room
     copy-asks page = record {
-      touched = owns-touched copy-owns;
+      touched = owns-touched o;
       readable = record {
         geometry = known .shaped .geometry;
         slots = words-long known;
@@ -189,7 +187,7 @@ module _ {g : Geometry} {st : Store} {e : CodeEdit.Edit} {d : List ℕ} {size : 
     pub copy-fills : {m : List ℕ}
         → ((sizes : List ℕ) → m ≡ storeSlot g (within (e .off) (e .end)) (λ p. byteAt g (record { sizes = sizes; words = words; mem = mem }) (s .file) (s .off + (p - e .off)))
         w (wordOf g words (e .file) k) mem k) → m ≡ fillSlot g st (editFrom e d) mem k
-    copy-fills t = fill-owned copy-owns _ same (t (st .sizes))
+    copy-fills t = fill-owned o _ same (t (st .sizes))
       where
         same : (p : ℕ) → e .off ≤ p → p < e .end
             → byteAt g (record { sizes = st .sizes; words = words; mem = mem }) (s .file) (s .off + (p - e .off)) ≡ newByte g st (editFrom e d) p
@@ -213,12 +211,12 @@ module _ {g : Geometry} {st : Store} {e : CodeEdit.Edit} {d : List ℕ} {size : 
 
   -- ---- by the kind
 
-  pub slot-of : SlotOf g e k
-  slot-of = record { edit = known .edit; from = h .from; to = h .to }
+  pub slot-of : SlotOf g e k × (length words ≡ g .F * g .S)
+  slot-of = (record { edit = known .edit; from = h .from; to = h .to }, words-long known)
 
-  module _ {c : Kind} (n : KindIs g e size k w c) where
+  module _ {c : Kind} (n : KindIs g e size words k w c) where
     is-kind : c ≡ kindOf g st (editFrom e d) k
-    is-kind = n .is st d (sym (known .size-is)) (sym (h .word-is))
+    is-kind = n .is st d (record { size-is = sym (known .size-is); word-is = sym (h .word-is); others = record { same = λ f q m l. sym (others-kept known f q m l) } })
 
     pub left-fills : isOwned c ≡ false → mem ≡ fillSlot g st (editFrom e d) mem k
     left-fills o = fill-none (ap isOwned (sym is-kind) ∙ o)

@@ -3,14 +3,12 @@ use Prim.Native.Nat.{ℕ, suc, _+_, _*_, _/_, _%_, _≤_, _<_, _-_}
 use mathlib.Core.Path.{_≡_, refl, sym, ap, _∙_}
 use mathlib.Core.Bool.{Bool, true, false, cond, not, true≢false}
 use mathlib.Core.List.{List}
-use mathlib.Core.Logic.{_≢_}
 use native.Mathlib.Nat.{le-refl, mul-le-mul-right, div-add-mod'}
 use native.Mathlib.Omega.{arith}
-use lib.ListN.{length, getD, length-set}
-use lib.Seq.{getD-set-other}
+use lib.ListN.{length, getD}
 use Rattle.rules.specs.Lists.{ceilDiv}
-use Rattle.rules.specs.Store.{Geometry, Store, sizeOf, wordOf, word, isHole, lowestFree, used}
-use Rattle.rules.specs.Edit.{firstSlot, slotCount, Kind, owns, given, shares, reserved, stays, isGiven, kindOf, become, owned, givesBack}
+use Rattle.rules.specs.Store.{Geometry, Store, word, isHole, lowestFree, used}
+use Rattle.rules.specs.Edit.{firstSlot, slotCount, Kind, owns, given, cleared, shares, reserved, stays, goesFirst, kindOf, become, owned, covers}
 use Rattle.rules.proofs.GeometryLaws.{Good, good, block-pos, slots-all}
 use Rattle.rules.proofs.EditForms.{slots-behind}
 use Rattle.rules.proofs.SoundStore.{slots-fit, ceil-behind, Sound}
@@ -23,7 +21,7 @@ use Rattle.store.specs.declared.edit.Act as Code
 use Rattle.store.specs.declared.edit.Edit as CodeEdit
 use Rattle.store.specs.declared.edit.Search.{Search}
 use Rattle.store.specs.Edits.{editFrom, ActKnown, Applies}
-use Rattle.store.specs.Planner.{SourceSlots, EditSlots, Plannable, SlotOf, SharesIn, KindIs, indexOf, NoBlock, SlotChanged, inPass}
+use Rattle.store.specs.Planner.{SourceIn, EditSlots, Plannable, SlotOf, SharesIn, CopyKindIs, SlotSeen, KindIs, indexOf, NoBlock, SlotChanged, inPass}
 
 -- ---- where the slots lie
 
@@ -55,11 +53,15 @@ module _ {g : Geometry} {st : Store} {cs : List ℕ} {e : CodeEdit.Edit} {d : Li
   sound-store : Sound g st
   sound-store = sound-facts g (block-pos good-geometry) st (a .known .shaped .lengths) (a .known .sound)
 
-  -- a CLONE's source lies as its target does
-  source-slots : (act : Code.Act) → ActKnown g st (e .file) (e .off) (e .end) d act → SourceSlots g (slotCount g (e .off) (e .end)) act
-  source-slots Code.Act.Write k = tt
-  source-slots (Code.Act.Copy s) k = tt
-  source-slots (Code.Act.Clone s) k =
+  -- a COPY's source lies inside its file; a CLONE's lies as its target does
+  source-in : (act : Code.Act) → ActKnown g st (e .file) (e .off) (e .end) d act → SourceIn g (e .file) (e .off) (e .end) act
+  source-in Code.Act.Write k = tt
+  source-in (Code.Act.Copy s) k = record {
+    file = k .source .file;
+    other = k .other;
+    fits = omega (arith, k .source .inside, sound-store .fits (s .file) (k .source .file));
+  }
+  source-in (Code.Act.Clone s) k =
       let n : ℕ = e .end - e .off in
       let end : e .off + n ≡ e .end = omega arith in
       let count : slotCount g (e .off) (e .end) ≡ ceilDiv n (g .B) = rw end at (slots-behind (block-pos good-geometry) (e .off) n (k .target-even)) in
@@ -67,11 +69,11 @@ module _ {g : Geometry} {st : Store} {cs : List ℕ} {e : CodeEdit.Edit} {d : Li
       let room : s .off / g .B + ceilDiv n (g .B) ≤ g .S
       = ceil-behind (block-pos good-geometry) (s .off / g .B) n (g .S) (omega (arith, k .source .inside, sound-store .fits (s .file) (k .source .file))) in
       omega (arith, mul-le-mul-right (g .S) (k .source .file))
-  source-slots Code.Act.Allocate k = tt
-  source-slots Code.Act.Deallocate k = tt
+  source-in Code.Act.Allocate k = tt
+  source-in Code.Act.Deallocate k = tt
 
   pub applies-slots : EditSlots g e
-  applies-slots = record { geometry = a .known .shaped .geometry; file = a .known .file; some = some; fits = a .fits some; source = source-slots (e .act) (a .act) }
+  applies-slots = record { geometry = a .known .shaped .geometry; file = a .known .file; some = some; fits = a .fits some; source = source-in (e .act) (a .act) }
 
   pub applies-plannable : {old : List ℕ} → length old ≡ slotCount g (e .off) (e .end) → Plannable g e (st .words) cs old
   applies-plannable long = record {
@@ -88,36 +90,34 @@ module _ {g : Geometry} {e : CodeEdit.Edit} {k : ℕ} (s : SlotOf g e k) {from :
 
 -- ---- a slot's kind
 
-module _ {g : Geometry} {e : CodeEdit.Edit} {size k w : ℕ} where
+module _ {g : Geometry} {e : CodeEdit.Edit} {size : ℕ} {ws : List ℕ} {k w : ℕ} where
   by-act : {c : Kind} (a : Code.Act) → e .act ≡ a → SharesIn (g .F * g .S) c
-      → ((st : Store) (d : List ℕ) → sizeOf st (e .file) ≡ size → wordOf g (st .words) (e .file) k ≡ w
-      → c ≡ kindOf g st (editFrom (record { file = e .file; off = e .off; end = e .end; act = a }) d) k)
-      → KindIs g e size k w c
+      → ((st : Store) (d : List ℕ) → SlotSeen g e size ws k w st → c ≡ kindOf g st (editFrom (record { file = e .file; off = e .off; end = e .end; act = a }) d) k)
+      → KindIs g e size ws k w c
   by-act a q i h = record {
-    is = λ st d p r. h st d p r ∙ ap (λ (x : Code.Act). kindOf g st (editFrom (record { file = e .file; off = e .off; end = e .end; act = x }) d) k) (sym q);
+    is = λ st d s. h st d s ∙ ap (λ (x : Code.Act). kindOf g st (editFrom (record { file = e .file; off = e .off; end = e .end; act = x }) d) k) (sym q);
     inside = i;
   }
 
-  pub kind-write : e .act ≡ Code.Act.Write → KindIs g e size k w owns
+  pub kind-write : e .act ≡ Code.Act.Write → KindIs g e size ws k w owns
   unfolding kindOf
-  kind-write q = by-act _ q tt (λ st d p r. refl)
+  kind-write q = by-act _ q tt (λ st d s. refl)
 
-  pub kind-copy : {s : Source} → e .act ≡ Code.Act.Copy s → KindIs g e size k w owns
-  unfolding kindOf
-  kind-copy q = by-act _ q tt (λ st d p r. refl)
+  pub kind-copy : {s : Source} {c : Kind} → e .act ≡ Code.Act.Copy s → CopyKindIs g e s size ws k c → KindIs g e size ws k w c
+  kind-copy q h = by-act _ q (h .inside) (λ st d s. h .is st (s .size-is) (s .others))
 
   pub kind-clone : SlotOf g e k → {s : Source} → e .act ≡ Code.Act.Clone s
-      → KindIs g e size k w (shares (s .file * g .S + s .off / g .B + (k - firstSlot g (e .off))))
+      → KindIs g e size ws k w (shares (s .file * g .S + s .off / g .B + (k - firstSlot g (e .off))))
   unfolding kindOf
-  kind-clone h q = by-act _ q (clone-room h q) (λ st d p r. refl)
+  kind-clone h q = by-act _ q (clone-room h q) (λ st d s. refl)
 
-  pub kind-allocate : e .act ≡ Code.Act.Allocate → KindIs g e size k w reserved
+  pub kind-allocate : e .act ≡ Code.Act.Allocate → KindIs g e size ws k w reserved
   unfolding kindOf
-  kind-allocate q = by-act _ q tt (λ st d p r. refl)
+  kind-allocate q = by-act _ q tt (λ st d s. refl)
 
-  pub kind-cut : {c : Kind} → e .act ≡ Code.Act.Deallocate → c ≡ cond (givesBack g size (e .off) (e .end) k) given (cond (isHole w) stays owns) → KindIs g e size k w c
+  pub kind-cut : {c : Kind} → e .act ≡ Code.Act.Deallocate → c ≡ cond (covers g size (e .off) (e .end) k) given (cond (isHole w) stays owns) → KindIs g e size ws k w c
   unfolding kindOf
-  kind-cut q h = rw h (by-act _ q (none (givesBack g size (e .off) (e .end) k) (isHole w)) (λ st d p r. rw (p, r)))
+  kind-cut q h = rw h (by-act _ q (none (covers g size (e .off) (e .end) k) (isHole w)) (λ st d s. rw (s .size-is, s .word-is)))
     where
       none : (a b : Bool) → SharesIn (g .F * g .S) (cond a given (cond b stays owns))
       none true b = tt
@@ -141,6 +141,10 @@ module _ {ws cs : List ℕ} {i : ℕ} where
     unfolding become
     changed-given s = changed-done (s .words-are) (s .counted) (omega arith)
 
+    pub changed-cleared : Stored ws i (getD ws i 0 % 2) after cs′ → SlotChanged cleared ws cs i (Search.From 0) after cs′
+    unfolding become
+    changed-cleared s = let e : getD ws i 0 % 2 ≡ word 0 (getD ws i 0 % 2) = omega arith in changed-done (rw e at (s .words-are)) (s .counted) (omega arith)
+
     pub changed-shares : {p : ℕ} → Stored ws i (word (getD ws p 0 / 2) (getD ws i 0 % 2)) after cs′ → SlotChanged (shares p) ws cs i (Search.From 0) after cs′
     unfolding become
     changed-shares s = changed-done (s .words-are) (s .counted) (omega arith)
@@ -151,26 +155,11 @@ module _ {ws cs : List ℕ} {i : ℕ} where
 
 -- ---- what a kind does to the words
 
-pub become-local : (c : Kind) (ws : List ℕ) (i p : ℕ) → p ≢ i → getD (become c ws i) p 0 ≡ getD ws p 0
-unfolding become
-become-local owns ws i p d = getD-set-other ws i p _ 0 d
-become-local given ws i p d = getD-set-other ws i p _ 0 d
-become-local (shares q) ws i p d = getD-set-other ws i p _ 0 d
-become-local reserved ws i p d = getD-set-other ws i p _ 0 d
-become-local stays ws i p d = refl
-
-pub become-length : (c : Kind) (ws : List ℕ) (i : ℕ) → length (become c ws i) ≡ length ws
-unfolding become
-become-length owns ws i = length-set ws i _
-become-length given ws i = length-set ws i _
-become-length (shares q) ws i = length-set ws i _
-become-length reserved ws i = length-set ws i _
-become-length stays ws i = refl
-
 -- the kinds of a pass in which a slot may take a block; none of them loses one
 abbrev pub keeps : Kind → Bool
 keeps owns = true
 keeps given = false
+keeps cleared = false
 keeps (shares p) = false
 keeps reserved = false
 keeps stays = true
@@ -179,6 +168,7 @@ pub keeps-used : (c : Kind) → keeps c ≡ true → (ws : List ℕ) (i : ℕ) �
 unfolding become
 keeps-used owns e ws i h = own-slot ws i h .used-grows
 keeps-used given e ws i h = absurd (true≢false (sym e))
+keeps-used cleared e ws i h = absurd (true≢false (sym e))
 keeps-used (shares p) e ws i h = absurd (true≢false (sym e))
 keeps-used reserved e ws i h = absurd (true≢false (sym e))
 keeps-used stays e ws i h = le-refl _
@@ -193,10 +183,10 @@ stop-used n c ws i h pool none =
 
 -- ---- which pass
 
-pub pass-given : (first : Bool) → first ≡ inPass first given
-pass-given true = refl
-pass-given false = refl
+pub pass-first : (first : Bool) (c : Kind) → goesFirst c ≡ true → first ≡ inPass first c
+pass-first true c e = sym e
+pass-first false c e = rw e
 
-pub pass-other : (first : Bool) (c : Kind) → isGiven c ≡ false → not first ≡ inPass first c
+pub pass-other : (first : Bool) (c : Kind) → goesFirst c ≡ false → not first ≡ inPass first c
 pass-other true c e = sym e
 pass-other false c e = rw e

@@ -9,6 +9,6 @@ pub mod SettleLaws
 pub mod CopyBytes
 pub mod ApplyLaws
 pub mod KindLaws
+pub mod MatchLaws
 pub mod PassLaws
-pub mod AloneLaws
 pub mod FillLaws

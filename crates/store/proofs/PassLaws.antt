@@ -12,16 +12,18 @@ use lib.Seq.{getD-take, getD-drop}
 use Rattle.xdr.specs.Bytes.{splice}
 use Rattle.rules.specs.Lists.{each}
 use Rattle.rules.specs.Store.{Geometry, Store, sizeOf, wordOf, isHole, used, owed, fitsPool}
-use Rattle.rules.specs.Edit.{Act, write, copy, clone, allocate, deallocate, Edit, firstSlot, slotCount, Kind, owns, given, stays, kindOf, become, givesBack, pass, plan}
+use Rattle.rules.specs.Edit.{Act, write, copy, clone, allocate, deallocate, Edit, copying, firstSlot, slotCount, Kind, owns, given, cleared, stays, kindOf, become, covers, clears, pass, plan}
 use Rattle.rules.proofs.PlanLaws.{each-ext, InPool}
+use Rattle.rules.proofs.KindLaws.{become-local, become-length}
+use Rattle.rules.proofs.SoundStore.{apart}
 use Rattle.tables.specs.Tables.{TableTrue}
 use Rattle.tables.specs.Tally.{firstZero}
 use Rattle.store.specs.declared.edit.Edit as CodeEdit
 use Rattle.store.specs.declared.edit.Search.{Search}
 use Rattle.store.specs.Edits.{editFrom}
 use Rattle.store.specs.Plan.{Planned, Outside, Undoable, Undone, Settleable}
-use Rattle.store.specs.Planner.{NoBlock, KindIs, goesOn, SlotChanged, inPass, only, Plannable, indexOf, wordsOf, Seen, Passed, EditPlanned}
-use Rattle.store.proofs.KindLaws.{edit-inside, become-local, become-length, keeps, keeps-used, stop-used}
+use Rattle.store.specs.Planner.{NoBlock, Others, SlotSeen, KindIs, goesOn, SlotChanged, inPass, only, Plannable, indexOf, wordsOf, Seen, Passed, EditPlanned}
+use Rattle.store.proofs.KindLaws.{edit-room, edit-inside, keeps, keeps-used, stop-used}
 use Rattle.store.proofs.SettleLaws.{outside-refl, outside-trans, saved-is, saved-pool, saved-back, planned-undone, planned-settled}
 
 -- ---- slots one after the other
@@ -82,6 +84,10 @@ unfolding kindOf
 owns-keeps true g st e k h j = absurd (true≢false (sym (only-owns (inPass true) (kindOf g st e k) h)))
 owns-keeps false g st e k h j = go (e .act) h
   where
+    copied : (a : Bool) → keeps (only (inPass false) (cond a cleared owns)) ≡ true
+    copied true = refl
+    copied false = refl
+
     cut : (a b : Bool) → keeps (only (inPass false) (cond a given (cond b stays owns))) ≡ true
     cut true b = refl
     cut false true = refl
@@ -90,14 +96,24 @@ owns-keeps false g st e k h j = go (e .act) h
     go : (a : Act) → kindsIn (inPass false) g st (record { file = e .file; off = e .off; end = e .end; act = a }) k ≡ owns
         → keeps (kindsIn (inPass false) g st (record { file = e .file; off = e .off; end = e .end; act = a }) j) ≡ true
     go (write new) q = refl
-    go (copy s soff) q = refl
+    go (copy s soff) q = copied (clears g st (copying (e .file) (e .off) (e .end) s soff) s soff j)
     go (clone s soff) q = let z : _≡_ {A = ℕ} 0 1 = cc in absurd (omega arith)
     go allocate q = let z : _≡_ {A = ℕ} 0 1 = cc in absurd (omega arith)
-    go deallocate q = cut (givesBack g (sizeOf st (e .file)) (e .off) (e .end) j) (isHole (wordOf g (st .words) (e .file) j))
+    go deallocate q = cut (covers g (sizeOf st (e .file)) (e .off) (e .end) j) (isHole (wordOf g (st .words) (e .file) j))
 
 -- ---- the loop: the slots that are left give the pass
 
-module _ {g : Geometry} {e : CodeEdit.Edit} {size : ℕ} {old : List ℕ} {st : Store} (s : Seen g e size old st) where
+-- the other files' words stay where only the region's slots change
+others-on : {g : Geometry} (e : CodeEdit.Edit) {ws ws₁ ws′ : List ℕ} → firstSlot g (e .off) + slotCount g (e .off) (e .end) ≤ g .S
+    → Outside ws (indexOf g e) (slotCount g (e .off) (e .end)) ws₁ → Others g (e .file) ws ws′ → Others g (e .file) ws₁ ws′
+others-on {g} e fit o h = record { same = λ c q d l. h .same c q d l ∙ sym (o .same (c * g .S + q) (go c q (apart (g .S) c (e .file) q d l))) }
+  where
+    go : (c q : ℕ) → (c * g .S + q < e .file * g .S) ⊎ (e .file * g .S + g .S ≤ c * g .S + q)
+        → (c * g .S + q < indexOf g e) ⊎ (indexOf g e + slotCount g (e .off) (e .end) ≤ c * g .S + q)
+    go c q (inl a) = inl (omega arith)
+    go c q (inr a) = inr (omega (arith, fit))
+
+module _ {g : Geometry} {e : CodeEdit.Edit} {size : ℕ} {old ws₀ : List ℕ} {st : Store} (s : Seen g e size old ws₀ st) where
   -- the word of a slot before the edit
   seen-word : (j : ℕ) → j < slotCount g (e .off) (e .end) → wordOf g (st .words) (e .file) (firstSlot g (e .off) + j) ≡ getD old j 0
   seen-word j h =
@@ -106,13 +122,22 @@ module _ {g : Geometry} {e : CodeEdit.Edit} {size : ℕ} {old : List ℕ} {st : 
       let same : i + j ≡ e .file * g .S + (firstSlot g (e .off) + j) = omega arith in
       sym (rw (s .words-are, getD-take n (drop i (st .words)) j 0 h, getD-drop i (st .words) j 0, same))
 
+  -- what a slot's kind looks at, while the region's words change
+  seen-slot : {ws : List ℕ} → firstSlot g (e .off) + slotCount g (e .off) (e .end) ≤ g .S → Outside ws₀ (indexOf g e) (slotCount g (e .off) (e .end)) ws
+      → (j : ℕ) → j < slotCount g (e .off) (e .end) → SlotSeen g e size ws (firstSlot g (e .off) + j) (getD old j 0) st
+  seen-slot fit o j h = record {
+    size-is = s .size-is;
+    word-is = seen-word j h;
+    others = others-on e fit o (s .others);
+  }
+
 pub record Passing (g : Geometry) (e : CodeEdit.Edit) (size : ℕ) (first : Bool) (old ws₀ cs₀ ws cs : List ℕ) (j from : ℕ) : Type 0 where
   pub within : j ≤ slotCount g (e .off) (e .end)
   pub blocks : length cs ≡ length cs₀
   pub counted : TableTrue ws cs
   pub low : from ≤ firstZero cs
   pub outside : Outside ws₀ (indexOf g e) (slotCount g (e .off) (e .end)) ws
-  pub left : (st : Store) (d : List ℕ) → Seen g e size old st
+  pub left : (st : Store) (d : List ℕ) → Seen g e size old ws₀ st
       → each (run (e .file * g .S) (kindsIn (inPass first) g st (editFrom e d))) ws (firstSlot g (e .off) + j) (slotCount g (e .off) (e .end) - j)
       ≡ pass g st (editFrom e d) (inPass first) ws₀
 
@@ -140,7 +165,8 @@ module _ {g : Geometry} {e : CodeEdit.Edit} {size : ℕ} {first : Bool} {old ws�
         unfit = λ t st d s. absurd (true≢false t);
       }
 
-  module _ (h : j < slotCount g (e .off) (e .end)) {kind : Kind} (is : KindIs g e size (firstSlot g (e .off) + j) (getD old j 0) kind)
+  module _ (fit : firstSlot g (e .off) + slotCount g (e .off) (e .end) ≤ g .S) (h : j < slotCount g (e .off) (e .end)) {kind : Kind}
+      (is : KindIs g e size ws (firstSlot g (e .off) + j) (getD old j 0) kind)
       {next : Search} {after cs′ : List ℕ} (same : length cs′ ≡ length cs)
       (t : SlotChanged (only (inPass first) kind) ws cs (indexOf g e + j) next after cs′) where
     changed-at : SlotChanged (only (inPass first) kind) ws cs (e .file * g .S + (firstSlot g (e .off) + j)) next after cs′
@@ -148,9 +174,9 @@ module _ {g : Geometry} {e : CodeEdit.Edit} {size : ℕ} {first : Bool} {old ws�
         let q : indexOf g e + j ≡ e .file * g .S + (firstSlot g (e .off) + j) = omega arith in
         rw q at t
 
-    kinds-are : (st : Store) (d : List ℕ) → Seen g e size old st
+    kinds-are : (st : Store) (d : List ℕ) → Seen g e size old ws₀ st
         → kindsIn (inPass first) g st (editFrom e d) (firstSlot g (e .off) + j) ≡ only (inPass first) kind
-    kinds-are st d s = ap (only (inPass first)) (sym (is .is st d (s .size-is) (seen-word s j h)))
+    kinds-are st d s = ap (only (inPass first)) (sym (is .is st d (seen-slot s fit (l .outside) j h)))
 
     one-more : slotCount g (e .off) (e .end) - j ≡ suc (slotCount g (e .off) (e .end) - (j + 1))
     one-more = omega arith
@@ -243,9 +269,13 @@ module _ {g : Geometry} {e : CodeEdit.Edit} {n : ℕ} {ws cs old : List ℕ} (k 
       before : Store
       before = record { sizes = sizes; words = ws; mem = mem }
 
-      seen : Seen g e size old before
+      seen : Seen g e size old ws before
       unfolding before
-      seen = record { size-is = is; words-are = saved-words }
+      seen = record { size-is = is; words-are = saved-words; others = record { same = λ c q n l. refl } }
+
+      -- behind the first pass
+      seen-mid : Seen g e size old mid before
+      seen-mid = record { size-is = seen .size-is; words-are = seen .words-are; others = others-on e (edit-room (k .edit) .slots) (a .outside) (seen .others) }
 
       plan-is : pass g before (editFrom e d) (inPass false) mid ≡ plan g before (editFrom e d)
       unfolding plan before
@@ -256,7 +286,7 @@ module _ {g : Geometry} {e : CodeEdit.Edit} {n : ℕ} {ws cs old : List ℕ} (k 
       unfolding before
       plan-stopped ends same u = record {
         planned = λ sizes mem d is. planned-undone ws (indexOf g e) n old saved (rw all (edit-inside k)) changed
-            (rw (plan-is sizes mem d is) at (b .unfit (not-true d₂ ends) (before sizes mem d is) d (seen sizes mem d is))) same u;
+            (rw (plan-is sizes mem d is) at (b .unfit (not-true d₂ ends) (before sizes mem d is) d (seen-mid sizes mem d is))) same u;
         saved = saved-words;
       }
 
@@ -264,6 +294,6 @@ module _ {g : Geometry} {e : CodeEdit.Edit} {n : ℕ} {ws cs old : List ℕ} (k 
       unfolding before
       plan-settled ok p = record {
         planned = λ sizes mem d is. planned-settled ws (indexOf g e) n old saved (rw all (edit-inside k)) changed
-            (b .words-are (not-false d₂ ok) (before sizes mem d is) d (seen sizes mem d is) ∙ plan-is sizes mem d is) p;
+            (b .words-are (not-false d₂ ok) (before sizes mem d is) d (seen-mid sizes mem d is) ∙ plan-is sizes mem d is) p;
         saved = saved-words;
       }

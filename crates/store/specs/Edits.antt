@@ -5,7 +5,7 @@ use mathlib.Core.List.{List}
 use mathlib.Core.Logic.{_≢_}
 use lib.ListN.{length, getD}
 use Rattle.rules.specs.Store.{Geometry, Store, sizeOf}
-use Rattle.rules.specs.Edit.{Act, write, copy, clone, allocate, deallocate, Edit, Kind, owns, given, shares, reserved, stays}
+use Rattle.rules.specs.Edit.{Act, write, copy, clone, allocate, deallocate, Edit, Kind, owns, given, cleared, shares, reserved, stays}
 use Rattle.store.specs.declared.edit.Source.{Source}
 use Rattle.store.specs.declared.edit.Act as Code
 use Rattle.store.specs.declared.edit.Edit as CodeEdit
@@ -28,6 +28,7 @@ editFrom e d = record { file = e .file; off = e .off; end = e .end; act = actFro
 abbrev pub kindFrom : CodeKind.Kind → Kind
 kindFrom CodeKind.Kind.Owns = owns
 kindFrom CodeKind.Kind.Given = given
+kindFrom CodeKind.Kind.Cleared = cleared
 kindFrom (CodeKind.Kind.Shares p) = shares p
 kindFrom CodeKind.Kind.Reserved = reserved
 kindFrom CodeKind.Kind.Stays = stays

@@ -29,6 +29,8 @@ pub enum Kind {
     Owns,
     // It is given back.
     Given,
+    // It becomes a hole and keeps its r.
+    Cleared,
     // It takes the block, or the hole, of the slot with that index.
     Shares(usize),
     // Its r is set.

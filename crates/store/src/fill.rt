@@ -12,8 +12,8 @@ use crate::bytes::zero_slot;
 use crate::copy_bytes::copy_slot;
 use crate::edit::Act;
 use crate::edit::Edit;
-use crate::planner::is_owned;
-use crate::planner::kind_of;
+use crate::kinds::is_owned;
+use crate::kinds::kind_of;
 use tables::Geometry;
 
 // The share of slot k, which is to have a block of its own. w is its word before the edit, `words` are the planned ones.
@@ -61,7 +61,7 @@ fn put_slot(
     ensures { λ _. ⌜ ((st : Store) → SlotFills (geometryOf g) st e (now (d .entry)) size (now (words .entry)) (now (mem .entry)) k w
         → now (mem .exit) ≡ fillSlot (geometryOf g) st (editFrom e (now (d .entry))) (now (mem .entry)) k) ⌝ }
 {
-    if !is_owned(kind_of(g, e, size, k, w)) {
+    if !is_owned(kind_of(g, words, e, size, k, w)) {
         return;
     }
     put_owned(g, words, mem, e, k, w, d, page);

@@ -4,6 +4,7 @@ mod copy_bytes;
 mod edit;
 mod edits;
 mod fill;
+mod kinds;
 mod plan;
 mod planner;
 mod read;

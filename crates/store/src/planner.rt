@@ -1,73 +1,25 @@
-// The plan of any edit, in place: what becomes of each slot of its region, the given-back slots first, then the others.
+// The plan of any edit, in place: what becomes of each slot of its region, those that become holes first, then the others.
 ghost use mathlib.Core.Path.{_≡_};
-ghost use mathlib.Core.Bool.{true, cond};
-ghost use Prim.Native.Nat.{_*_, _<_};
+ghost use mathlib.Core.Bool.{true};
+ghost use Prim.Native.Nat.{_<_};
 ghost use lib.ListN.{length};
-ghost use Rattle.rules.specs.Store.{goodGeometry, isHole, fitsPool};
-ghost use Rattle.rules.specs.Edit.{isOwned, given, owns, reserved, shares, stays, givesBack};
+ghost use Rattle.rules.specs.Store.{fitsPool};
+ghost use Rattle.rules.specs.Edit.{cleared, given, reserved, shares};
 ghost use Rattle.tables.specs.Lent.{geometryOf};
 ghost use Rattle.tables.specs.Tables.{TableTrue};
 ghost use Rattle.store.specs.Edits.{kindFrom};
-ghost use Rattle.store.specs.Planner.{SlotOf, KindIs, Changeable, SlotChanged, inPass, only, Plannable, Passed, EditPlanned};
-use crate::edit::Act;
+ghost use Rattle.store.specs.Planner.{Changeable, SlotChanged, inPass, only, Plannable, Passed, EditPlanned};
 use crate::edit::Edit;
 use crate::edit::Kind;
 use crate::edit::Search;
+use crate::kinds::in_pass;
+use crate::kinds::kind_of;
 use crate::plan::own_slot;
 use crate::plan::save_words;
 use crate::plan::settle;
 use crate::plan::undo;
 use tables::Geometry;
 use tables::set_word;
-
-// Whether the bytes of slot k below the size, at least one, all lie in the region.
-fn slot_whole(g: Geometry, size: usize, off: usize, end: usize, k: usize) -> bool
-    requires { ⌜ (goodGeometry (geometryOf g) ≡ true) × (k < g .slots) ⌝ }
-    ensures { λ r. ⌜ r ≡ givesBack (geometryOf g) size off end k ⌝ }
-{
-    let start = k * g.block_size;
-    if start < off {
-        return false;
-    }
-    if size <= start {
-        return false;
-    }
-    if size <= end {
-        return true;
-    }
-    start + g.block_size <= end
-}
-
-// What a DEALLOCATE makes of slot k, whose word is w.
-fn cut_kind(g: Geometry, size: usize, off: usize, end: usize, k: usize, w: u32) -> Kind
-    requires { ⌜ (goodGeometry (geometryOf g) ≡ true) × (k < g .slots) ⌝ }
-    ensures { λ r. ⌜ kindFrom r ≡ cond (givesBack (geometryOf g) size off end k) given (cond (isHole w) stays owns) ⌝ }
-{
-    if slot_whole(g, size, off, end, k) {
-        return Kind::Given;
-    }
-    if w / 2 == 0 {
-        return Kind::Stays;
-    }
-    Kind::Owns
-}
-
-// What becomes of slot k of e's file, whose size is `size`; w is the slot's word before the edit.
-pub fn kind_of(g: Geometry, e: Edit, size: usize, k: usize, w: u32) -> Kind
-    requires { ⌜ SlotOf (geometryOf g) e k ⌝ }
-    ensures { λ r. ⌜ KindIs (geometryOf g) e size k w (kindFrom r) ⌝ }
-{
-    let act = e.act;
-    match act {
-        Act::Write => Kind::Owns,
-        Act::Copy(_) => Kind::Owns,
-        Act::Clone(s) => Kind::Shares(
-            s.file * g.slots + s.off / g.block_size + (k - e.off / g.block_size),
-        ),
-        Act::Allocate => Kind::Reserved,
-        Act::Deallocate => cut_kind(g, size, e.off, e.end, k, w),
-    }
-}
 
 // Slot i takes the block, or the hole, of slot p, and keeps its r.
 fn share_slot(words: &mut [u32], counts: &mut [u32], i: usize, p: usize) -> Search
@@ -98,6 +50,16 @@ fn give_slot(words: &mut [u32], counts: &mut [u32], i: usize) -> Search
     Search::From(0)
 }
 
+// A hole, its r as it was.
+fn clear_slot(words: &mut [u32], counts: &mut [u32], i: usize) -> Search
+    requires { ⌜ TableTrue (now words) (now counts) × (i < length (now words)) ⌝ }
+    ensures { λ r. ⌜ SlotChanged cleared (now (words .entry)) (now (counts .entry)) i r (now (words .exit)) (now (counts .exit)) ⌝ }
+{
+    let w = words[i] % 2;
+    set_word(words, counts, i, w);
+    Search::From(0)
+}
+
 // Does to slot i of the table what its kind says. No block below `from` is free; a word that is stored for another reason than to take
 // a block may free one, and the search begins anew.
 fn change_slot(words: &mut [u32], counts: &mut [u32], i: usize, kind: Kind, from: usize) -> Search
@@ -107,35 +69,10 @@ fn change_slot(words: &mut [u32], counts: &mut [u32], i: usize, kind: Kind, from
     match kind {
         Kind::Owns => own_slot(words, counts, i, from),
         Kind::Given => give_slot(words, counts, i),
+        Kind::Cleared => clear_slot(words, counts, i),
         Kind::Shares(p) => share_slot(words, counts, i, p),
         Kind::Reserved => reserve_slot(words, counts, i),
         Kind::Stays => Search::From(from),
-    }
-}
-
-// Whether a slot of that kind is done in the first pass, which gives back, or in the second.
-fn in_pass(first: bool, kind: Kind) -> bool
-    ensures { λ r. ⌜ r ≡ inPass first (kindFrom kind) ⌝ }
-{
-    match kind {
-        Kind::Given => first,
-        Kind::Owns => !first,
-        Kind::Shares(_) => !first,
-        Kind::Reserved => !first,
-        Kind::Stays => !first,
-    }
-}
-
-// Whether a slot of that kind is to have a block of its own.
-pub fn is_owned(kind: Kind) -> bool
-    ensures { λ r. ⌜ r ≡ isOwned (kindFrom kind) ⌝ }
-{
-    match kind {
-        Kind::Owns => true,
-        Kind::Given => false,
-        Kind::Shares(_) => false,
-        Kind::Reserved => false,
-        Kind::Stays => false,
     }
 }
 
@@ -157,7 +94,7 @@ fn pass_slot(
     change_slot(words, counts, i, kind, from)
 }
 
-// A pass over the slots of e, whose words before the edit are `old`, in rising order: in the first pass those that are given back, in the
+// A pass over the slots of e, whose words before the edit are `old`, in rising order: in the first pass those that become holes, in the
 // second the others. Each search for a free block goes on behind the last one. Stops, and answers false, where a slot takes a block and
 // none is free.
 fn pass(
@@ -177,7 +114,7 @@ fn pass(
     let mut from = 0;
     let mut j = 0;
     while j < old.len() {
-        let kind = kind_of(g, e, size, k + j, old[j]);
+        let kind = kind_of(g, words, e, size, k + j, old[j]);
         let Search::From(next) = pass_slot(words, counts, i + j, kind, first, from) else {
             return false;
         };

@@ -8,7 +8,6 @@ use compare::{Proved, Second, Server};
 use second::{Geometry, Store, REPLY_MIN};
 
 use crate::case::{self, Case, Kind, Work, VERIFIER};
-use crate::pick;
 
 const SERVERS: [&dyn Server; 2] = [&Proved, &Second];
 
@@ -39,43 +38,73 @@ pub fn tables() {
     sweep();
 }
 
-/// The WRITEs of `pick`, all of them in every round, so that they can be compared with each other.
-/// `before` is this program, linked with another archive: its times stand beside those of this one.
-pub fn picks(before: Option<&str>) {
-    println!("Nanoseconds per call, the lowest of {RUNS} rounds, each call timed by itself.\n");
-    let [head, line] = before.map_or(["", ""], |_| [" Before | Ratio before |", "---|---|"]);
-    println!("| WRITE | Geometry | Proved | Plain | Ratio |{head}");
-    println!("|---|---|---|---|---|{line}");
-    let mut rounds: Vec<Rounds> = pick::ALL
-        .iter()
-        .map(|pick| Rounds::new(pick.case()))
-        .collect();
+/// A case of a table in which each call is timed by itself.
+pub trait Timed {
+    /// What the calls are.
+    const TITLE: &'static str;
+    /// The argument that asks this program for one run of a case.
+    const WORD: &'static str;
+
+    fn name(&self) -> &'static str;
+
+    fn case(&self) -> Case;
+}
+
+/// Nanoseconds per call of one run, and how many more blocks are used after its first call.
+struct Cost {
+    time: u128,
+    blocks: i64,
+}
+
+/// All cases in every round, so that they can be compared with each other. `before` is this program,
+/// linked with another archive: its times and blocks stand beside those of this one.
+pub fn timed<T: Timed>(cases: &[T], before: Option<&str>) {
+    println!(
+        "Nanoseconds per call, the lowest of {RUNS} rounds, each call timed by itself; and the"
+    );
+    println!("blocks that are used after it and were not before.\n");
+    let [head, line] = match before {
+        None => ["", ""],
+        Some(_) => [" Before | Ratio before | Blocks before |", "---|---|---|"],
+    };
+    println!(
+        "| {} | Geometry | Proved | Plain | Ratio | Blocks |{head}",
+        T::TITLE
+    );
+    println!("|---|---|---|---|---|---|{line}");
+    let rounds = cases.iter().map(|case| Rounds::new(case.case()));
+    let mut rounds: Vec<Rounds> = rounds.collect();
     for _ in 0..RUNS {
         for (number, rounds) in rounds.iter_mut().enumerate() {
-            rounds.more(before.map(|program| other(program, number)));
+            rounds.more(before.map(|program| other(program, T::WORD, number)));
         }
     }
-    for (pick, rounds) in pick::ALL.iter().zip(rounds) {
-        let columns = rounds.columns(|times| times[0]);
-        println!("| {} | {} | {columns} |", pick.name, four(&pick.geometry));
+    for (case, rounds) in cases.iter().zip(rounds) {
+        let geometry = four(&rounds.case.geometry);
+        println!("| {} | {geometry} | {} |", case.name(), rounds.lowest());
     }
 }
 
-/// One run of a pick by the archive that is linked.
-pub fn pick(number: usize) {
-    let case = pick::ALL[number].case();
-    let mut store = case.store.clone();
-    println!("{}", run(&Proved, &case, &mut store));
+/// One run of a case by the archive that is linked.
+pub fn one<T: Timed>(case: &T) {
+    let mut rounds = Rounds::new(case.case());
+    let blocks = rounds.blocks();
+    let time = run(&Proved, &rounds.case, &mut rounds.store);
+    println!("{time} {blocks}");
 }
 
-/// One run of a pick by another such program.
-fn other(program: &str, number: usize) -> u128 {
+/// One run of a case by another such program.
+fn other(program: &str, word: &str, number: usize) -> Cost {
     let output = Command::new(program)
-        .args(["pick", &number.to_string()])
+        .args([word, &number.to_string()])
         .output();
     let output = output.expect("the other program runs");
     let line = String::from_utf8(output.stdout).expect("its line is text");
-    line.trim().parse().expect("its line is a number")
+    let (time, blocks) = line.trim().split_once(' ').expect("its line has two words");
+    Cost {
+        time: time.parse().expect("a number"),
+        blocks: blocks.parse().expect("a number"),
+    }
 }
 
 /// How the cost grows with the slots, and with the blocks.
@@ -108,44 +137,79 @@ fn columns(case: Case) -> String {
     for _ in 0..RUNS {
         rounds.more(None);
     }
-    rounds.columns(|times| times[times.len() / 2])
+    rounds.medians()
 }
 
 /// A case, and the nanoseconds of its runs: the proved server's, the plain one's, and another
-/// program's, if there is one.
+/// program's, if there is one, with the blocks that it took.
 struct Rounds {
     case: Case,
     store: Store,
     times: [Vec<u128>; 3],
+    other_blocks: i64,
 }
 
 impl Rounds {
     fn new(case: Case) -> Rounds {
-        let store = case.store.clone();
-        let times = Default::default();
-        Rounds { case, store, times }
+        Rounds {
+            store: case.store.clone(),
+            case,
+            times: Default::default(),
+            other_blocks: 0,
+        }
     }
 
-    fn more(&mut self, other: Option<u128>) {
+    fn more(&mut self, other: Option<Cost>) {
         for (server, times) in SERVERS.iter().zip(&mut self.times) {
             times.push(run(*server, &self.case, &mut self.store));
         }
-        self.times[2].extend(other);
+        if let Some(other) = other {
+            self.times[2].push(other.time);
+            self.other_blocks = other.blocks;
+        }
     }
 
-    /// One of the times of each, in rising order, and the ratios.
-    fn columns(self, choose: impl Fn(&[u128]) -> u128) -> String {
-        let [proved, plain, other] = self.times.map(|mut times| {
+    /// One of the times of the first two, in rising order, and their ratio; the other's, and its ratio.
+    fn chosen(&mut self, choose: impl Fn(&[u128]) -> u128) -> (String, Option<String>) {
+        let [proved, plain, other] = self.times.each_mut().map(|times| {
             times.sort_unstable();
-            (!times.is_empty()).then(|| choose(&times))
+            (!times.is_empty()).then(|| choose(times))
         });
         let (proved, plain) = (proved.unwrap_or(0), plain.unwrap_or(1));
         let ratio = |time: u128| time as f64 / plain as f64;
         let columns = format!("{proved} | {plain} | {:.2}", ratio(proved));
-        match other {
-            None => columns,
-            Some(other) => format!("{columns} | {other} | {:.2}", ratio(other)),
+        let other = other.map(|other| format!("{other} | {:.2}", ratio(other)));
+        (columns, other)
+    }
+
+    /// The medians of both, and their ratio.
+    fn medians(mut self) -> String {
+        self.chosen(|times| times[times.len() / 2]).0
+    }
+
+    /// The lowest times of all, with the blocks.
+    fn lowest(mut self) -> String {
+        let blocks = self.blocks();
+        match self.chosen(|times| times[0]) {
+            (columns, None) => format!("{columns} | {blocks}"),
+            (columns, Some(other)) => {
+                format!("{columns} | {blocks} | {other} | {}", self.other_blocks)
+            }
         }
+    }
+
+    /// How many more blocks are used after the first call.
+    fn blocks(&mut self) -> i64 {
+        let Rounds { case, store, .. } = self;
+        let Work::Again { request, .. } = &case.work else {
+            return 0;
+        };
+        let mut reply = vec![0; REPLY_MIN];
+        copy(&case.store, store);
+        let before = Proved.count_blocks(&case.geometry, store).used;
+        Proved.serve(&case.geometry, store, &VERIFIER, request, &mut reply);
+        let after = Proved.count_blocks(&case.geometry, store).used;
+        after as i64 - before as i64
     }
 }
 

@@ -4,6 +4,7 @@ use compare::wire::{self, ZEROS};
 use second::{Geometry, Store};
 
 use crate::case::{self, Case, Work, LARGE};
+use crate::measure::Timed;
 
 /// Half of `LARGE`.
 const HALF: Geometry = case::geometry(64, 512, 32_768, 512);
@@ -21,8 +22,8 @@ const CALLS: usize = 200;
 /// Files of full size, whose slots hold blocks in order, but for the last ones, which are holes;
 /// and WRITEs up to the last slot.
 pub struct Pick {
-    pub name: &'static str,
-    pub geometry: Geometry,
+    name: &'static str,
+    geometry: Geometry,
     holes: u64,
     writes: u64,
     /// Of each WRITE.
@@ -55,15 +56,24 @@ pub const ALL: [Pick; 8] = [
     pick("11 times 100 bytes over their own blocks", 0, MANY, SHORT),
 ];
 
-impl Pick {
-    pub fn case(&self) -> Case {
+impl Timed for Pick {
+    const TITLE: &'static str = "WRITE";
+    const WORD: &'static str = "pick";
+
+    fn name(&self) -> &'static str {
+        self.name
+    }
+
+    fn case(&self) -> Case {
         let work = Work::Again {
             request: self.request(),
             back: (self.holes > 0).then(|| self.back()),
         };
         Case::checked(self.geometry, self.store(), CALLS, work)
     }
+}
 
+impl Pick {
     fn store(&self) -> Store {
         let geometry = &self.geometry;
         let mut store = Store::empty(geometry);

@@ -3,8 +3,8 @@
 //! that are shown the number, the place and the bytes.
 //!
 //! `generator` makes the calls of a seed, `pair` runs them side by side, `shrink` makes a list with
-//! a difference short, `seed` puts these together, `damage` makes requests wrong at every byte, `tally` counts what was met, with `slots` and
-//! `attributes`, and `program` runs many seeds.
+//! a difference short, `seed` puts these together, `damage` makes requests wrong at every byte, `tally` counts what was met, with `slots`,
+//! `attributes` and `copies`, and `program` runs many seeds.
 //!
 //! `client` compares two clients: what they write, and what they tell of replies.
 //!
@@ -12,6 +12,7 @@
 
 mod attributes;
 mod client;
+mod copies;
 mod damage;
 mod difference;
 mod frames;

@@ -1,5 +1,6 @@
 //! The list of a seed: made, run, and made short where two servers differ.
 
+use crate::copies::Copying;
 use crate::difference::Difference;
 use crate::generator::Generator;
 use crate::list::{List, Step};
@@ -66,18 +67,7 @@ fn run_seed(
     let mut pair = Pair::new(list.geometry, servers)?;
     let mut run = |pair: &mut Pair, step: Step| {
         list.steps.push(step.clone());
-        let before = pair.store().words.clone();
-        let observed = pair.step(&step)?;
-        let outcome = pair.outcome(&observed);
-        let words = [&before[..], &pair.store().words];
-        tally.add(&observed, outcome.as_ref());
-        if observed.served.is_some() {
-            tally.add_slots(&pair.geometry, words);
-        }
-        if let (Some(outcome), None) = (&outcome, &observed.on_copy) {
-            tally.add_attributes(&pair.geometry, words, outcome);
-        }
-        Ok(observed.soundness)
+        run_step(pair, &step, tally)
     };
     let mut calls = Vec::new();
     for _ in 0..generator.calls() {
@@ -105,6 +95,26 @@ fn run_seed(
     }
     tally.lists += 1;
     Ok(())
+}
+
+/// Runs a step and counts what it meets; 0 where the store is sound after it.
+fn run_step(pair: &mut Pair, step: &Step, tally: &mut Tally) -> Result<u32, Difference> {
+    let before = pair.store().words.clone();
+    let copying = Copying::new(&pair.geometry, pair.store(), step);
+    let observed = pair.step(step)?;
+    let outcome = pair.outcome(&observed);
+    let words = [&before[..], &pair.store().words];
+    tally.add(&observed, outcome.as_ref());
+    if observed.served.is_some() {
+        tally.add_slots(&pair.geometry, words);
+    }
+    if let (Some(outcome), None) = (&outcome, &observed.on_copy) {
+        tally.add_attributes(&pair.geometry, words, outcome);
+    }
+    if let (Some(outcome), Some(copying)) = (&outcome, &copying) {
+        tally.add_copies(copying, outcome);
+    }
+    Ok(observed.soundness)
 }
 
 /// A short list with a difference, and that difference.

@@ -6,6 +6,7 @@ use std::fmt;
 use second::Geometry;
 
 use crate::attributes::Attributes;
+use crate::copies::{Copies, Copying};
 use crate::observed::Observed;
 use crate::server::Shown;
 use crate::slots::{kinds, SLOTS};
@@ -78,6 +79,7 @@ pub struct Tally {
     answers: BTreeMap<(&'static str, u32), u64>,
     slots: [[u64; SLOTS.len()]; SLOTS.len()],
     attributes: Attributes,
+    copies: Copies,
 }
 
 impl Tally {
@@ -147,6 +149,11 @@ impl Tally {
         self.attributes.add(geometry, words, outcome);
     }
 
+    /// Counts what the COPYs of a call did.
+    pub(crate) fn add_copies(&mut self, call: &Copying, outcome: &Outcome) {
+        self.copies.add(call, outcome);
+    }
+
     fn results(&self, number: u32, status: u32) -> u64 {
         self.results.get(&(number, status)).copied().unwrap_or(0)
     }
@@ -174,8 +181,8 @@ impl Tally {
             .flat_map(|(call, numbers)| numbers.iter().map(move |&number| (call, number)))
             .filter(|&(call, number)| self.answers(call, number) == 0)
             .map(|(call, number)| format!("{call} {number}"));
-        let attributes = self.attributes.missing();
-        let answers = answers.chain(attributes);
+        let answers = answers.chain(self.attributes.missing());
+        let answers = answers.chain(self.copies.missing());
         results.chain(without).chain(answers).collect()
     }
 
@@ -209,7 +216,7 @@ impl fmt::Display for Tally {
             }
             writeln!(f)?;
         }
-        writeln!(f, "\n{}", self.attributes)?;
+        writeln!(f, "\n{}\n{}", self.attributes, self.copies)?;
         self.show_slots(f)
     }
 }

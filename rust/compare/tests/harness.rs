@@ -54,6 +54,25 @@ impl Scene<'_> {
         })
     }
 
+    /// Whether COPY is the only edit that the call ran, and is OK.
+    fn is_copy(&self) -> bool {
+        let reply = &self.reply[..self.answer.written as usize];
+        let Some(outcome) = wire::outcome(reply).filter(|_| self.answer.number == 0) else {
+            return false;
+        };
+        let edits = outcome.results.iter();
+        let mut edits = edits.filter(|result| wire::EDITS.contains(&result.number));
+        let copy = edits.next();
+        copy.is_some_and(|copy| (copy.number, copy.status) == (wire::COPY, 0))
+            && edits.next().is_none()
+    }
+
+    /// For each slot its block before and after, by number from 1 on; 0 for a hole.
+    fn blocks(&self) -> impl Iterator<Item = [u32; 2]> + '_ {
+        let words = self.before.words.iter().zip(&self.after.words);
+        words.map(|(old, new)| [old / 2, new / 2])
+    }
+
     /// The blocks that were held before the call and are free after it.
     fn freed(&self) -> Vec<usize> {
         let blocks = 1..=self.geometry.blocks as u32;
@@ -324,6 +343,43 @@ fn a_freed_block_that_is_cleared() {
     }));
     assert!(found.difference.what.starts_with("memory at"));
     assert!(operations(&found.list) <= 8, "{}", found.list);
+}
+
+#[test]
+fn a_reserve_that_goes_where_a_copy_makes_a_hole() {
+    let found = found(&Serving(|scene: Scene| {
+        if scene.is_copy() {
+            let words = scene.after.words.iter_mut().zip(&scene.before.words);
+            for (word, before) in words {
+                if *word == 1 && before / 2 != 0 {
+                    *word = 0;
+                }
+            }
+        }
+    }));
+    assert!(found.list.to_string().contains("COPY"));
+    // A source with a hole, a reserved target with a block, and the COPY, with the handles for them.
+    assert!(operations(&found.list) <= 9, "{}", found.list);
+}
+
+#[test]
+fn a_block_that_a_copy_frees_and_takes() {
+    let found = found(&Serving(|scene: Scene| {
+        let freed: Vec<u32> = scene
+            .blocks()
+            .filter(|&[old, new]| old != 0 && new == 0)
+            .map(|[old, _]| old)
+            .collect();
+        let taken = scene
+            .blocks()
+            .any(|[old, new]| new != old && freed.contains(&new));
+        if taken && scene.is_copy() {
+            scene.reply[scene.answer.written as usize - 1] ^= 1;
+        }
+    }));
+    assert!(found.difference.what.starts_with("reply at"));
+    assert!(found.list.to_string().contains("COPY"));
+    assert!(operations(&found.list) <= 12, "{}", found.list);
 }
 
 #[test]

@@ -5,7 +5,7 @@
 use std::collections::BTreeMap;
 use std::ops::Range;
 
-use crate::geometry::Geometry;
+use crate::geometry::{common, lies_in, Geometry};
 use crate::status::Status;
 use crate::store::{decoded, holders, tally, Slot, Store};
 
@@ -45,18 +45,31 @@ impl<'a> Draft<'a> {
         }
     }
 
-    /// WRITE and COPY: each touched slot ends with a block of its own.
+    /// WRITE: each touched slot ends with a block of its own.
     pub fn write(&mut self, offset: u64, data: &[u8]) {
         let region = offset..offset + data.len() as u64;
-        let mut rest = data;
         for index in self.geometry.touched(&region) {
-            let part = self.geometry.within(index, &region);
-            let (piece, after) = rest.split_at(part.len());
-            let block = self.own(index);
-            self.bytes_mut(block)[part].copy_from_slice(piece);
-            rest = after;
+            self.put(index, &region, data);
         }
         self.grow(region.end);
+    }
+
+    /// COPY: covered slots that get nothing but holes become holes first, then the others are
+    /// written. `holes` are the parts of the region that come from holes, none beside another.
+    pub fn copy(&mut self, offset: u64, data: &[u8], holes: &[Range<u64>]) {
+        let region = offset..offset + data.len() as u64;
+        self.grow(region.end);
+        let (emptied, written): (Vec<_>, Vec<_>) =
+            self.geometry.touched(&region).partition(|&index| {
+                let part = common(&self.geometry.span(index), &region);
+                self.is_covered(index, &region) && holes.iter().any(|hole| lies_in(&part, hole))
+            });
+        for index in emptied {
+            self.hold(index, None);
+        }
+        for index in written {
+            self.put(index, &region, data);
+        }
     }
 
     /// ALLOCATE: each touched slot is reserved.
@@ -127,7 +140,16 @@ impl<'a> Draft<'a> {
     /// Whether all of the slot's bytes below the size lie in the region.
     fn is_covered(&self, index: usize, region: &Range<u64>) -> bool {
         let span = self.geometry.span(index);
-        region.start <= span.start && span.end.min(self.size) <= region.end
+        lies_in(&(span.start..span.end.min(self.size)), region)
+    }
+
+    /// Stores the slot's part of a region's bytes in a block of its own.
+    fn put(&mut self, index: usize, region: &Range<u64>, data: &[u8]) {
+        let start = common(&self.geometry.span(index), region).start - region.start;
+        let part = self.geometry.within(index, region);
+        let piece = &data[start as usize..][..part.len()];
+        let block = self.own(index);
+        self.bytes_mut(block)[part].copy_from_slice(piece);
     }
 
     /// Makes the slot hold a block of its own and names it.

@@ -73,3 +73,8 @@ impl Geometry {
 pub(crate) fn common(a: &Range<u64>, b: &Range<u64>) -> Range<u64> {
     a.start.max(b.start)..a.end.min(b.end)
 }
+
+/// Whether all bytes of a region lie in another.
+pub(crate) fn lies_in(part: &Range<u64>, whole: &Range<u64>) -> bool {
+    whole.start <= part.start && part.end <= whole.end
+}

@@ -66,6 +66,14 @@ impl<'a> View<'a> {
         pieces
     }
 
+    /// The parts of the region that are holes, each as long as it can be.
+    pub fn holes(&self, region: Range<u64>) -> impl Iterator<Item = Range<u64>> {
+        let pieces = self.pieces(region).into_iter();
+        pieces
+            .filter(|piece| piece.kind == Kind::Hole)
+            .map(|piece| piece.region)
+    }
+
     /// The first place from the offset on that is of the kind, or the size.
     pub fn seek(&self, offset: u64, kind: Kind) -> u64 {
         self.pieces(offset..self.size)

@@ -199,8 +199,7 @@ impl<'a> Runner<'a> {
             return Err(Status::Inval);
         }
         let count = way.source.end - way.source.start;
-        let data = self.view(way.source_file).bytes(way.source);
-        self.write_bytes(way.target_file, way.target, &data)?;
+        self.copy_bytes(way)?;
         body.u32(0); // no callback id
         body.u64(count);
         body.u32(FILE_SYNC);
@@ -266,6 +265,21 @@ impl<'a> Runner<'a> {
         self.edit(file, |draft| draft.write(region.start, data))
     }
 
+    /// COPY's edit; of no bytes it is none.
+    fn copy_bytes(&mut self, way: Way) -> Result<(), Status> {
+        if way.target.is_empty() {
+            return Ok(());
+        }
+        self.fits(&way.target)?;
+        let source = self.view(way.source_file);
+        let data = source.bytes(way.source.clone());
+        let holes = source.holes(way.source.clone());
+        let holes: Vec<_> = holes.map(|hole| way.at_target(hole)).collect();
+        self.edit(way.target_file, |draft| {
+            draft.copy(way.target.start, &data, &holes);
+        })
+    }
+
     fn fits(&self, region: &Range<u64>) -> Result<(), Status> {
         if region.end > self.geometry.capacity() {
             return Err(Status::FBig);
@@ -291,6 +305,12 @@ struct Way {
 }
 
 impl Way {
+    /// Where a part of the source goes.
+    fn at_target(&self, part: Range<u64>) -> Range<u64> {
+        let place = |source: u64| source - self.source.start + self.target.start;
+        place(part.start)..place(part.end)
+    }
+
     fn overlaps(&self) -> bool {
         self.source_file == self.target_file
             && self.source.start < self.target.end

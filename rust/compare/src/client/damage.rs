@@ -14,7 +14,7 @@ use crate::server::Server;
 use crate::wire::{self, int, opaque};
 
 /// So many lists meet every operation with every status.
-const LISTS: u64 = 250;
+const LISTS: u64 = 400;
 
 /// A longer reply is changed only near the places of its results and pieces, and near its end.
 const LONG: usize = 700;

@@ -2,6 +2,7 @@
 
 mod aims;
 mod attributes;
+mod copies;
 mod operations;
 mod scenarios;
 mod views;

@@ -7,7 +7,7 @@ use crate::wire;
 
 impl Maker<'_> {
     pub fn scenario(&mut self) -> Vec<Vec<u8>> {
-        match self.random.below(22) {
+        match self.random.below(26) {
             0..=4 => self.edits(),
             5..=8 => self.transfers(),
             9 => self.fill_pool(),
@@ -19,6 +19,8 @@ impl Maker<'_> {
             17 => self.longest_reply(),
             18 => self.gauges(),
             19 => self.gauge_clones(),
+            20..=22 => self.sparse_copy(),
+            23 => self.copy_in_full_pool(),
             _ => self.mixture(),
         }
     }
@@ -79,7 +81,7 @@ impl Maker<'_> {
     }
 
     /// The first slot that is a hole, or the first of all.
-    fn hole(&self, file: usize) -> u64 {
+    pub fn hole(&self, file: usize) -> u64 {
         let slots = self.geometry.slots as usize;
         let words = &self.store.words[file * slots..(file + 1) * slots];
         let hole = words.iter().position(|word| word / 2 == 0);

@@ -224,7 +224,7 @@ fn copy_across_slots_with_holes() {
     let expected = [vec![0xee; 700], source[300..].to_vec()].concat();
     assert_eq!(bench.file(1), expected);
     assert_eq!(bench.file(0), source);
-    // Zeros of holes are data at the target.
+    // Every slot gets some data, so the zeros of holes are data too.
     assert_eq!(bench.counts(), (7, 1));
     assert_eq!(bench.on(1, seek(0, 1)).1, seek_body(true, 2400));
     // A part of it, within one slot.

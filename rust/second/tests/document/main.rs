@@ -4,6 +4,7 @@ mod attributes;
 mod bench;
 mod both_sides;
 mod compounds;
+mod copies;
 mod edits;
 mod frames;
 mod places;

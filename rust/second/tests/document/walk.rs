@@ -285,6 +285,60 @@ fn no_space_exactly_where_a_larger_pool_counts_too_many() {
     assert!(refused > 500, "{refused}");
 }
 
+/// Whether a COPY makes a hole of the slot, byte by byte. `before` is the store before it, `size`
+/// the target's size after it.
+fn becomes_hole(before: &Bench, edit: &Edit, size: u64, slot: u64) -> bool {
+    let What::Copy { source, from } = edit.what else {
+        return false;
+    };
+    let b = before.geometry.block_size;
+    let is_hole = |place: u64| before.words(source)[(place / b) as usize] / 2 == 0;
+    let mut places = (slot * b..(slot + 1) * b).filter(|&place| place < size);
+    places.all(|place| {
+        let at = place.checked_sub(edit.to).filter(|&at| at < edit.length);
+        at.is_some_and(|at| is_hole(from + at))
+    })
+}
+
+#[test]
+fn copies_make_holes_where_the_rule_has_them() {
+    let mut seen = [0; 2];
+    for seed in 1..=80 {
+        let mut bench = Bench::new(small(seed));
+        let b = bench.geometry.block_size;
+        let mut dice = dice(seed * 55);
+        for _ in 0..200 {
+            let edit = dice.edit(&bench.geometry);
+            let before = Bench {
+                geometry: bench.geometry,
+                store: bench.store.clone(),
+            };
+            let (status, _) = bench.last(&edit.operations());
+            if status != OK || !matches!(edit.what, What::Copy { .. }) {
+                continue;
+            }
+            let size = bench.store.sizes[edit.file];
+            for slot in edit.to / b..=(edit.to + edit.length - 1) / b {
+                let [old, new] = [&before, &bench].map(|it| it.words(edit.file)[slot as usize]);
+                let hole = becomes_hole(&before, &edit, size, slot);
+                let holders = bench
+                    .store
+                    .words
+                    .iter()
+                    .filter(|word| **word / 2 == new / 2);
+                assert!(if hole {
+                    new / 2 == 0
+                } else {
+                    holders.count() == 1
+                });
+                assert_eq!(new % 2, old % 2);
+                seen[usize::from(hole)] += 1;
+            }
+        }
+    }
+    assert!(seen.iter().all(|&times| times > 100), "{seen:?}");
+}
+
 #[test]
 fn the_yes_of_allocate_is_worth_having() {
     for seed in 1..=60 {

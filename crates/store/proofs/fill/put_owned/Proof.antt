@@ -25,7 +25,8 @@ copy-slot-requires : tie.Need-copy-slot-requires
 copy-slot-requires c κs =
     let t = c .before .before .before in
     let s = t .before .before .before .before .before .before .before .before in
-    copy-asks (s .pre .0 .1 .1 .slot) (t .act .given .1) (s .pre .1)
+    let o = s .pre .0 .1 .1 in
+    copy-asks (o .slot) (t .act .given .1) (o .kind) (s .pre .1)
 
 zero-slot-requires : tie.Need-zero-slot-requires
 zero-slot-requires c κs =
@@ -41,7 +42,7 @@ returns c =
 returns-2 : tie.Need-returns-2
 returns-2 c =
     let w = c .before .before .before .before in
-    λ st size h. copy-fills (h .slot) (w .before .before .before .before .act .given .1) (w .copy-slot .ensures)
+    λ st size h. copy-fills (h .slot) (w .before .before .before .before .act .given .1) (h .kind) (w .copy-slot .ensures)
 
 returns-3 : tie.Need-returns-3
 returns-3 c = λ st size h. absurd (clone-owns (h .slot) (c .enum-told2 .given .1) (h .kind))

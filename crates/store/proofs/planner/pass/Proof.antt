@@ -31,7 +31,7 @@ loop-holds c = pass-start (c .before .before .before .before .before .before .be
 
 add-kind-of : tie.Need-add-kind-of Inv-loop μ-loop
 add-kind-of c =
-    let l = c .before in
+    let l = c .before .before in
     let s = l .before .before .before .before .before .before .before .before in
     omega (arith, l .loop .inv .within, edit-room (s .pre .edit), good _ (s .pre .edit .geometry))
 
@@ -40,18 +40,19 @@ shared-slice-read-kind-of c = omega arith
 
 kind-of-requires : tie.Need-kind-of-requires Inv-loop μ-loop
 kind-of-requires c κs =
-    let s = c .before .before .before .before .before .before .before .before .before .before in
-    record { edit = s .pre .edit; from = omega arith; to = omega (arith, s .pre .saves) }
+    let l = c .before .before .before in
+    let s = l .before .before .before .before .before .before .before .before in
+    (record { edit = s .pre .edit; from = omega arith; to = omega (arith, s .pre .saves) }, l .loop .inv .outside .slots ∙ s .pre .slots)
 
 add-pass-slot : tie.Need-add-pass-slot Inv-loop μ-loop
 add-pass-slot c =
-    let s = c .before .before .before .before .before .before .before .before .before .before .before .before .before in
+    let s = c .before .before .before .before .before .before .before .before .before .before .before .before .before .before in
     omega (arith, edit-room (s .pre .edit), s .pre .saves)
 
 pass-slot-requires : tie.Need-pass-slot-requires Inv-loop μ-loop
 pass-slot-requires c κs =
     let k = c .before .before in
-    let l = k .before .before .before in
+    let l = k .before .before .before .before in
     let s = l .before .before .before .before .before .before .before .before in
     record {
       counted = l .loop .inv .counted;
@@ -63,25 +64,26 @@ pass-slot-requires c κs =
 same-length : tie.Need-same-length Inv-loop μ-loop
 same-length c =
     let o = c .before .before .before .before .before .before in
-    let l = o .before .before .before .before .before .before in
+    let l = o .before .before .before .before .before .before .before in
     o .pass-slot .kept .0 ∙ l .loop .inv .outside .slots
 
 same-length-2 : tie.Need-same-length-2 Inv-loop μ-loop
 same-length-2 c =
     let o = c .before .before .before .before .before .before in
-    let l = o .before .before .before .before .before .before in
+    let l = o .before .before .before .before .before .before .before in
     o .pass-slot .kept .1 .0 ∙ l .loop .inv .blocks
 
 returns : tie.Need-returns Inv-loop μ-loop
 returns c =
     let o = c .before .before .before .before .before .before in
     let k = o .before .before .before in
-    let l = k .before .before .before in
+    let l = k .before .before .before .before in
     let s = l .before .before .before .before .before .before .before .before in
-    pass-stop (l .loop .inv) (omega (arith, s .pre .saves)) (k .kind-of .ensures) (o .pass-slot .kept .1 .0) (o .pass-slot .ensures) (edit-inside (s .pre)) (ap goesOn (c .enum-told .given .1))
+    pass-stop (l .loop .inv) (edit-room (s .pre .edit) .slots) (omega (arith, s .pre .saves)) (k .kind-of .ensures) (o .pass-slot .kept .1 .0) (o .pass-slot .ensures) (edit-inside (s .pre))
+    (ap goesOn (c .enum-told .given .1))
 
 add-j : tie.Need-add-j Inv-loop μ-loop
-add-j c = let s = c .before .before .before .before .before .before .before .before .before .before .before .before .before .before .before .before .before .before .before .before .before in omega (arith, edit-room (s .pre .edit), s .pre .saves)
+add-j c = let s = c .before .before .before .before .before .before .before .before .before .before .before .before .before .before .before .before .before .before .before .before .before .before in omega (arith, edit-room (s .pre .edit), s .pre .saves)
 
 loop-less : tie.Need-loop-less Inv-loop μ-loop
 loop-less c = omega arith
@@ -90,9 +92,9 @@ loop-again : tie.Need-loop-again Inv-loop μ-loop
 loop-again c =
     let o = c .before .before .before .before .before .before .before in
     let k = o .before .before .before in
-    let l = k .before .before .before in
+    let l = k .before .before .before .before in
     let s = l .before .before .before .before .before .before .before .before in
-    pass-turn (l .loop .inv) (omega (arith, s .pre .saves)) (k .kind-of .ensures) (o .pass-slot .kept .1 .0) (o .pass-slot .ensures) (c .before .next .given .1)
+    pass-turn (l .loop .inv) (edit-room (s .pre .edit) .slots) (omega (arith, s .pre .saves)) (k .kind-of .ensures) (o .pass-slot .kept .1 .0) (o .pass-slot .ensures) (c .before .next .given .1)
 
 same-length-3 : tie.Need-same-length-3 Inv-loop μ-loop
 same-length-3 c = c .before .loop .inv .outside .slots

@@ -1,5 +1,5 @@
 -- The plan of an edit, by the kinds of its slots: a slot that owns a block has one that no other slot holds.
-use Prim.Native.Nat.{ℕ, zero, suc, pred, _+_, _*_, _/_, _≤_, _<_}
+use Prim.Native.Nat.{ℕ, zero, suc, pred, _+_, _*_, _/_, _%_, _≤_, _<_}
 use mathlib.Core.Path.{_≡_, refl, sym, _∙_}
 use mathlib.Core.Bool.{Bool, true, false, cond, not}
 use mathlib.Core.List.{List}
@@ -8,12 +8,11 @@ use native.Mathlib.Decide.{ℕ-discrete}
 use native.Mathlib.Omega.{arith}
 use lib.ListN.{length, getD, set, length-set}
 use lib.Seq.{getD-set-same, getD-set-other}
 use Rattle.rules.specs.Lists.{each}
 use Rattle.rules.specs.Store.{Geometry, Store, word, isHole, sizeOf, wordOf}
-use Rattle.rules.specs.Edit.{Act, write, copy, clone, allocate, deallocate, Edit, Kind, owns, given, shares, reserved, stays, firstSlot, slotCount, givesBack, kindOf, owned, become, isGiven, pass, plan}
+use Rattle.rules.specs.Edit.{Act, write, copy, clone, allocate, deallocate, Edit, copying, Kind, owns, given, cleared, shares, reserved, stays, firstSlot, slotCount, covers, clears, kindOf, owned, become, goesFirst, pass, plan}
 use Rattle.rules.proofs.PlanLaws.{each-keeps, own-slot, two-holders}
-use Rattle.rules.proofs.SlotByteLaws.{Local}
-use Rattle.rules.proofs.SoundStore.{other-words}
+use Rattle.rules.proofs.KindLaws.{step, step-long, steps-long}
 
 -- slot i has a block that no other slot holds
 pub record Alone (ws : List ℕ) (i : ℕ) : Type 0 where
@@ -49,75 +48,41 @@ become-alone owns n ws i j hi hj d a =
     let far : getD (set ws j x) j 0 / 2 ≢ getD (set ws j x) i 0 / 2 = own-alone ws j hj .apart i (rw (length-set ws j x) hi) d in
     set-alone ws i j x hj d (λ e. (rw (getD-set-same ws j x 0 hj, getD-set-other ws j i x 0 d) at far) (sym e)) a
 become-alone given n ws i j hi hj d a = set-alone ws i j 0 hj d (λ (e : getD ws i 0 / 2 ≡ 0 / 2). omega (arith, a .block)) a
+become-alone cleared n ws i j hi hj d a =
+    set-alone ws i j (word 0 (getD ws j 0 % 2)) hj d (λ (e : getD ws i 0 / 2 ≡ word 0 (getD ws j 0 % 2) / 2). omega (arith, a .block)) a
 become-alone (shares p) n ws i j hi hj d a = absurd (n p refl)
 become-alone reserved n ws i j hi hj d a =
     set-alone ws i j (word (getD ws j 0 / 2) 1) hj d (λ (e : getD ws i 0 / 2 ≡ word (getD ws j 0 / 2) 1 / 2). a .apart j hj (λ q. d (sym q)) (omega arith)) a
 become-alone stays n ws i j hi hj d a = a
 
-become-long : (c : Kind) (ws : List ℕ) (i : ℕ) → length (become c ws i) ≡ length ws
-unfolding become
-become-long owns ws i = length-set ws i _
-become-long given ws i = length-set ws i _
-become-long (shares p) ws i = length-set ws i _
-become-long reserved ws i = length-set ws i _
-become-long stays ws i = refl
-
-become-other : (c : Kind) (ws : List ℕ) (i p : ℕ) → p ≢ i → getD (become c ws i) p 0 ≡ getD ws p 0
-unfolding become
-become-other owns ws i p d = getD-set-other ws i p _ 0 d
-become-other given ws i p d = getD-set-other ws i p _ 0 d
-become-other (shares q) ws i p d = getD-set-other ws i p _ 0 d
-become-other reserved ws i p d = getD-set-other ws i p _ 0 d
-become-other stays ws i p d = refl
-
 -- a pass over slots of these kinds; `at` is the index of the file's slot 0
 module _ (at : ℕ) (kind : ℕ → Kind) (test : Kind → Bool) where
-  abbrev step : List ℕ → ℕ → List ℕ
-  step ws k = cond (test (kind k)) (become (kind k) ws (at + k)) ws
-
-  step-long : (ws : List ℕ) (k : ℕ) → length (step ws k) ≡ length ws
-  step-long ws k = go (test (kind k))
-    where
-      go : (t : Bool) → length (cond t (become (kind k) ws (at + k)) ws) ≡ length ws
-      go true = become-long (kind k) ws (at + k)
-      go false = refl
-
-  step-local : Local at step
-  step-local ws k p d = go (test (kind k))
-    where
-      go : (t : Bool) → getD (cond t (become (kind k) ws (at + k)) ws) p 0 ≡ getD ws p 0
-      go true = become-other (kind k) ws (at + k) p d
-      go false = refl
-
-  steps-long : (n k : ℕ) (ws : List ℕ) → length (each step ws k n) ≡ length ws
-  steps-long n k ws = each-keeps (λ x. length x ≡ length ws) step n k ws (λ x j l u e. step-long x j ∙ e) refl
-
   module _ (none : (k p : ℕ) → kind k ≢ shares p) where
-    step-alone : (ws : List ℕ) (i k : ℕ) → i < length ws → at + k < length ws → i ≢ at + k → Alone ws i → Alone (step ws k) i
+    step-alone : (ws : List ℕ) (i k : ℕ) → i < length ws → at + k < length ws → i ≢ at + k → Alone ws i → Alone (step at kind test ws k) i
     step-alone ws i k hi hk d a = go (test (kind k))
       where
         go : (t : Bool) → Alone (cond t (become (kind k) ws (at + k)) ws) i
         go true = become-alone (kind k) (none k) ws i (at + k) hi hk d a
         go false = a
 
-    steps-alone : (n k : ℕ) (ws : List ℕ) → at + (k + n) ≤ length ws → (i : ℕ) → i < at + k → Alone ws i → Alone (each step ws k n) i
+    steps-alone : (n k : ℕ) (ws : List ℕ) → at + (k + n) ≤ length ws → (i : ℕ) → i < at + k → Alone ws i → Alone (each (step at kind test) ws k n) i
     steps-alone n k ws h i l a =
-        each-keeps (λ x. (length x ≡ length ws) × Alone x i) step n k ws
-        (λ x j l′ u p. (step-long x j ∙ p .0, step-alone x i j (omega (arith, p .0)) (omega (arith, p .0)) (λ (e : i ≡ at + j). omega arith) (p .1)))
+        each-keeps (λ x. (length x ≡ length ws) × Alone x i) (step at kind test) n k ws
+        (λ x j l′ u p. (step-long at kind test x j ∙ p .0, step-alone x i j (omega (arith, p .0)) (omega (arith, p .0)) (λ (e : i ≡ at + j). omega arith) (p .1)))
         (refl, a) .1
 
     -- a slot that owns a block, in a pass over its kind
-    run-alone : test owns ≡ true → (n k : ℕ) (ws : List ℕ) → at + (k + n) ≤ length ws → (q : ℕ) → k ≤ q → q < k + n → kind q ≡ owns → Alone (each step ws k n) (at + q)
+    run-alone : test owns ≡ true → (n k : ℕ) (ws : List ℕ) → at + (k + n) ≤ length ws → (q : ℕ) → k ≤ q → q < k + n → kind q ≡ owns → Alone (each (step at kind test) ws k n) (at + q)
     unfolding become
     run-alone t zero k ws h q l u e = absurd (omega arith)
-    run-alone t (suc n) k ws h q l u e = go (run-alone t n (suc k) (step ws k) (omega (arith, step-long ws k)) q) (ℕ-discrete q k)
+    run-alone t (suc n) k ws h q l u e = go (run-alone t n (suc k) (step at kind test ws k) (omega (arith, step-long at kind test ws k)) q) (ℕ-discrete q k)
       where
-        now : kind k ≡ owns → Alone (step ws k) (at + k)
+        now : kind k ≡ owns → Alone (step at kind test ws k) (at + k)
         now o = rw (o, t) (own-alone ws (at + k) (omega arith))
 
-        go : (suc k ≤ q → q < suc k + n → kind q ≡ owns → Alone (each step (step ws k) (suc k) n) (at + q)) → Dec (q ≡ k)
-            → Alone (each step (step ws k) (suc k) n) (at + q)
-        go later (yes z) = rw z (steps-alone n (suc k) (step ws k) (omega (arith, step-long ws k)) (at + k) (omega arith) (now (rw z at e)))
+        go : (suc k ≤ q → q < suc k + n → kind q ≡ owns → Alone (each (step at kind test) (step at kind test ws k) (suc k) n) (at + q)) → Dec (q ≡ k)
+            → Alone (each (step at kind test) (step at kind test ws k) (suc k) n) (at + q)
+        go later (yes z) = rw z (steps-alone n (suc k) (step at kind test ws k) (omega (arith, step-long at kind test ws k)) (at + k) (omega arith) (now (rw z at e)))
         go later (no d) = later (omega (arith, d)) (omega arith) e
 
 -- ---- the rules' plan
@@ -127,10 +92,14 @@ no-shares : (g : Geometry) (st : Store) (f off end : ℕ) (a : Act) (k : ℕ) �
     → (q p : ℕ) → kindOf g st (record { file = f; off = off; end = end; act = a }) q ≢ shares p
 unfolding kindOf
 no-shares g st f off end (write new) k o q p e = let z : _≡_ {A = ℕ} 0 1 = cc in omega arith
-no-shares g st f off end (copy s soff) k o q p e = let z : _≡_ {A = ℕ} 0 1 = cc in omega arith
+no-shares g st f off end (copy s soff) k o q p e = go (clears g st (copying f off end s soff) s soff q) e
+  where
+    go : (a : Bool) → cond a cleared owns ≢ shares p
+    go true e = let z : _≡_ {A = ℕ} 0 1 = cc in omega arith
+    go false e = let z : _≡_ {A = ℕ} 0 1 = cc in omega arith
 no-shares g st f off end (clone s soff) k o q p e = let z : _≡_ {A = ℕ} 0 1 = cc in omega arith
 no-shares g st f off end allocate k o q p e = let z : _≡_ {A = ℕ} 0 1 = cc in omega arith
-no-shares g st f off end deallocate k o q p e = go (givesBack g (sizeOf st f) off end q) (isHole (wordOf g (st .words) f q)) e
+no-shares g st f off end deallocate k o q p e = go (covers g (sizeOf st f) off end q) (isHole (wordOf g (st .words) f q)) e
   where
     go : (a b : Bool) → cond a given (cond b stays owns) ≢ shares p
     go true b e = let z : _≡_ {A = ℕ} 0 1 = cc in omega arith
@@ -148,18 +117,7 @@ module _ (g : Geometry) (st : Store) (e : Edit) where
   count = slotCount g (e .off) (e .end)
 
   abbrev rest : Kind → Bool
-  rest c = not (isGiven c)
-
-  pub plan-long : length (plan g st e) ≡ length (st .words)
-  unfolding plan pass
-  plan-long = steps-long at (kindOf g st e) rest count first _ ∙ steps-long at (kindOf g st e) isGiven count first (st .words)
-
-  -- the other files keep their words
-  pub plan-other : firstSlot g (e .off) + slotCount g (e .off) (e .end) ≤ g .S → (f q : ℕ) → f ≢ e .file → q < g .S → wordOf g (plan g st e) f q ≡ wordOf g (st .words) f q
-  unfolding plan pass
-  plan-other fit f q d l =
-      other-words g (e .file) (step at (kindOf g st e) rest) (step-local at (kindOf g st e) rest) count first _ fit f q d l
-      ∙ other-words g (e .file) (step at (kindOf g st e) isGiven) (step-local at (kindOf g st e) isGiven) count first (st .words) fit f q d l
+  rest c = not (goesFirst c)
 
   -- a slot that owns a block has one that no other slot holds
   pub plan-alone : e .file * g .S + (firstSlot g (e .off) + slotCount g (e .off) (e .end)) ≤ length (st .words)
@@ -167,4 +125,4 @@ module _ (g : Geometry) (st : Store) (e : Edit) where
   unfolding plan pass
   plan-alone inside k l u o =
       run-alone at (kindOf g st e) rest (no-shares g st (e .file) (e .off) (e .end) (e .act) k o) refl count first _
-      (omega (arith, steps-long at (kindOf g st e) isGiven count first (st .words))) k l u o
+      (omega (arith, steps-long at (kindOf g st e) goesFirst count first (st .words))) k l u o

@@ -31,7 +31,7 @@ own-alone ws i inside =
     }
 
 -- it stays so where another slot gets another block
-set-alone : (ws : List ℕ) (i j x : ℕ) → j < length ws → i ≢ j → getD ws i 0 / 2 ≢ x / 2 → Alone ws i → Alone (set ws j x) i
+pub set-alone : (ws : List ℕ) (i j x : ℕ) → j < length ws → i ≢ j → getD ws i 0 / 2 ≢ x / 2 → Alone ws i → Alone (set ws j x) i
 set-alone ws i j x inside d far a = record {
   block = rw (getD-set-other ws j i x 0 d) (a .block);
   apart = λ p hp n. rw (getD-set-other ws j i x 0 d) (at p (rw (length-set ws j x) at hp) n (ℕ-discrete p j));

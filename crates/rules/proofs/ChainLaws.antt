@@ -12,7 +12,7 @@ use Rattle.xdr.specs.Encode.{u32}
 use Rattle.xdr.proofs.EncodeLaws.{length-u32}
 use Rattle.rules.specs.Lists.{first}
 use Rattle.rules.specs.Store.{Geometry, Store, sizeOf, wordOf, need, fitsPool, byteAt, content}
-use Rattle.rules.specs.Edit.{Edit}
+use Rattle.rules.specs.Edit.{Edit, edited}
 use Rattle.rules.specs.Read.{atEnd}
 use Rattle.rules.specs.Operation.{NOSPC, BADXDR, Op, READ, READ-PLUS, WRITE, ALLOCATE, opNumber, Item, op, bad, readResult, readPlusReply}
 use Rattle.rules.specs.Run.{State, noFile, fileOf, zeroId, errors, Config, config, does, editOf, effect, body, Event, failed, countedAfter, perform, reached}
@@ -24,7 +24,8 @@ use Rattle.rules.proofs.ArrayLaws.{length-content}
 use Rattle.rules.proofs.PieceLaws.{pieces-right}
 use Rattle.rules.proofs.ErrorLaws.{allocate-clear}
 use Rattle.rules.proofs.BodyLaws.{any-file}
-use Rattle.rules.proofs.OperationLaws.{Ready, op-facts, own-errors, effect-ready, effect-same, effect-r, effect-content, effect-current, setsFile, body-most, allocate-done, write-passes, write-has-room, write-done, read-passes, read-room, read-body, Performed, refused, nospc, done, performed, performed-item, performed-before}
+use Rattle.rules.proofs.EditLaws.{Lawful}
+use Rattle.rules.proofs.OperationLaws.{none≢some, Ready, op-facts, own-errors, effect-ready, effect-edit, effect-same, effect-r, effect-content, effect-current, setsFile, body-most, allocate-done, write-passes, write-has-room, write-done, read-passes, read-room, read-body, Performed, refused, nospc, done, performed, performed-item, performed-before}
 use Rattle.rules.proofs.ItemLaws.{BadKnown, AllKnown}
 
 -- ---- an operation reached in a sound state
@@ -181,6 +182,23 @@ module _ (g : Geometry) (bd : Good g) where
   unfolding editDone
   failed-edit x (op o next) e n = rw (ne-eqb e 0 n)
   failed-edit x (bad k s) e n = refl
+
+  -- an edit answered OK, from a sound store: no error forbids it, and the store afterwards is what it leaves
+  pub record Done (z : Event) (e : Edit) : Type 0 where
+    pub sound : Sound g (z .before .store)
+    pub lawful : Lawful g (z .before .store) e
+    pub after : z .after .store ≡ edited g (z .before .store) e
+
+  pub step-done : {z : Event} → Step g z → (e : Edit) → editDone g z ≡ some e → Done z e
+  step-done (decoded v x o next hv r p) e = go p
+    where
+      go : {z : Event} → Performed (config g v) x o next z → editDone g z ≡ some e → Done z e
+      go (refused k h) q = absurd (none≢some (sym (failed-edit x (op o next) (suc k) (λ n. omega (arith, n))) ∙ q))
+      go (nospc h l) q = absurd (none≢some (sym (failed-edit x (op o next) NOSPC (λ n. omega (arith, n))) ∙ q))
+      go (done h l) q =
+          let d = effect-edit g wide x r o h e (sym (done-edit v x o next) ∙ q) in
+          record { sound = r .sound; lawful = d .0; after = d .1 }
+  step-done (undecoded x k s r b) e = λ q. absurd (none≢some (sym (failed-edit x (bad k s) s (λ n. omega (arith, n, b .status-some))) ∙ q))
 
   -- ---- what it leaves
 

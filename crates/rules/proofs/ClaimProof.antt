@@ -15,6 +15,7 @@ use Rattle.rules.specs.Calls.{fresh, lastStore, Call, Outcome, Gives, an
 use Rattle.rules.specs.Claim.{Ran, Entry, ranCall, serving, Each, machine, events, history, Says, Refused, InOrder, OK, lastSet, Edits, GivesBack, Between, Allocated, ReadAfter, ReadsBack, Claim, EveryEvent}
 use Rattle.rules.specs.Seek.{SeekClaim}
 use Rattle.rules.specs.Emptying.{EmptyingClaim}
+use Rattle.rules.specs.Copying.{CopyingClaim}
 use Rattle.xdr.proofs.BoolLaws.{and-left, and-right, and-both}
 use Rattle.rules.proofs.GeometryLaws.{Good, good, block-pos}
 use Rattle.rules.proofs.SoundStore.{Sound}
@@ -22,6 +23,7 @@ use Rattle.rules.proofs.SoundLaws.{sound-facts, lengths-test, sound-tes
 use Rattle.rules.proofs.ChainLaws.{Step, Chain, nil, cons, step-before, chain-order, chain-end, chain-current, step-nospc, step-leaves, step-keeps, as-op, Has, step-has, allocated, write-ok, wrote-has, read-has}
 use Rattle.rules.proofs.SeekLaws.{step-seek}
 use Rattle.rules.proofs.EmptyingStep.{step-empties}
+use Rattle.rules.proofs.CopyingLaws.{step-copies}
 use Rattle.rules.proofs.AnswerLaws.{Accepted, Refusal, accepted-or-refused, refused-call, refused-number, zs, ran-is, events-are, accepted-chain, store-is, number-is, accepted-says}
 use Rattle.rules.proofs.ReplyLaws.{fresh-ready}
 
@@ -188,6 +190,10 @@ module _ (E : Entry) (F : Fulfils E) where
   pub emptying-of : EmptyingClaim E
   emptying-of g t fine gd cs os contracts keeps z m f e = step-empties g (good g fine) (steps-of g t fine gd cs os contracts keeps z m) f e
 
+  -- of every COPY reached
+  pub copying-of : CopyingClaim E
+  copying-of g t fine gd cs os contracts keeps z m = step-copies g (good g fine) (steps-of g t fine gd cs os contracts keeps z m)
+
 -- ---- the entry that serves a compound
 
 gives-is : (want o : Outcome Store) → Gives want o → o ≡ want
@@ -257,3 +263,6 @@ seeks = seeks-of serving serving-fulfils
 
 pub emptying : EmptyingClaim serving
 emptying = emptying-of serving serving-fulfils
+
+pub copying : CopyingClaim serving
+copying = copying-of serving serving-fulfils

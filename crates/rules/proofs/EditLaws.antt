@@ -51,6 +51,14 @@ lawful-file (clones f off n s soff t) = t .target-file
 lawful-file (allocates f off n hf some fits) = hf
 lawful-file (deallocates f off end hf cut) = hf
 
+-- an edit of some bytes lies inside its file
+pub lawful-fits : {g : Geometry} {st : Store} {e : Edit} → Sound g st → Lawful g st e → e .off < e .end → e .end ≤ g .S * g .B
+lawful-fits snd (writes f off n new hf fits) l = fits (omega arith)
+lawful-fits snd (copies f off n s soff hf hs source fits) l = fits (omega arith)
+lawful-fits snd (clones f off n s soff t) l = t .fits (omega arith)
+lawful-fits snd (allocates f off n hf some fits) l = fits
+lawful-fits snd (deallocates f off end hf cut) l = le-trans cut (snd .fits f hf)
+
 -- e gives back slot k of file c
 abbrev pub Back : Geometry → Store → Edit → ℕ → ℕ → Type 0
 Back g st e c k = (e .file ≡ c) × (e .act ≡ deallocate) × (covers g (sizeOf st c) (e .off) (e .end) k ≡ true)

@@ -1,5 +1,6 @@
 -- The hypotheses of the reservation and of the read-back are met: on P1 and P3, and on P5 and P6 with the CLONE of the region between, each
--- followed by a READ. So are those of the law on emptying: after P5 either of the two files is emptied.
+-- followed by a READ. So are those of the law on emptying: after P5 either of the two files is emptied; and of the law on COPY, with a reserved slot
+-- that it makes a hole and a WRITE into it.
 use Prim.Native.Nat.{ℕ, zero, suc, _/_}
 use mathlib.Core.Path.{_≡_, refl, sym, ap, _∙_}
 use mathlib.Core.Bool.{Bool, true, false, _&&_, not, true≢false}
@@ -12,12 +13,13 @@ use lib.ListN.{take, drop}
 use lib.Dec.{eqb}
 use Rattle.rules.specs.Store.{Geometry, need}
 use Rattle.rules.specs.Attributes.{spaceFreed}
-use Rattle.rules.specs.Edit.{Edit, Act, write, copy, clone, allocate, deallocate}
-use Rattle.rules.specs.Operation.{Op, READ, DEALLOCATE, bad}
+use Rattle.rules.specs.Edit.{Edit, Act, write, copy, clone, allocate, deallocate, copying, edited}
+use Rattle.rules.specs.Operation.{Op, SAVEFH, READ, WRITE, ALLOCATE, COPY, DEALLOCATE, bad}
 use Rattle.rules.specs.Run.{zeroId, Event, failed}
 use Rattle.rules.specs.Calls.{fresh}
 use Rattle.rules.specs.Claim.{serving, history, OK, editDone, GivesBack, RightAfter, Allocated, ReadAfter, ReadsBack}
 use Rattle.rules.specs.Emptying.{owedForFile, Empties}
+use Rattle.rules.specs.Copying.{asWrite, savedSlots}
 use Rattle.xdr.proofs.BoolLaws.{and-left, and-right}
 use Rattle.rules.proofs.Script as S
 
@@ -177,3 +179,46 @@ p5-empties = (
 pub p5-emptied : (given 0 (emptying 0 1024) ≡ 3 ∷ 1 ∷ 2 ∷ 0 ∷ []) × (given 1 (emptying 1 512) ≡ 3 ∷ 2 ∷ 0 ∷ 1 ∷ [])
 unfolding S.rules
 p5-emptied = (refl, refl)
+
+-- ---- a COPY that keeps holes, in a pool of three blocks that is full: file 1 has slot 0 reserved and slot 1 written, file 0 slot 2 alone. PUTFH,
+-- ALLOCATE, WRITE; PUTFH, WRITE, SAVEFH, PUTFH, COPY of all 1,025 bytes; PUTFH, WRITE into the reserved slot
+
+abbrev third : List Event
+third = events 3 (
+    (S.on 1 ∷ ALLOCATE zeroId 0 512 ∷ WRITE zeroId 512 2 (7 ∷ []) ∷ [])
+    ∷ (S.on 0 ∷ WRITE zeroId 1024 2 (5 ∷ []) ∷ SAVEFH ∷ S.on 1 ∷ COPY zeroId zeroId 0 0 0 false true ∷ [])
+    ∷ (S.on 1 ∷ WRITE zeroId 0 2 (9 ∷ []) ∷ []) ∷ [])
+
+abbrev copied : Event
+copied = event 7 third
+
+-- between the ALLOCATE and the WRITE stands the COPY, which leaves the reserved slot a hole
+pub k7-allocated : Allocated (S.geometry 3) third 1 0 512 0 (9 ∷ []) (event 9 third)
+unfolding S.rules
+k7-allocated = record {
+  a = event 1 third;
+  mid = take 7 (drop 2 third);
+  between = (take 1 third, [], refl);
+  id = zeroId;
+  allocate = ((_, refl), refl);
+  done = refl;
+  kept = λ z k m s b. kept-by (S.geometry 3) (take 7 (drop 2 third)) refl z m 1 k b;
+  stable = 2;
+  write = ((_, refl), refl);
+  some-byte = omega arith;
+  starts = omega arith;
+  ends = omega arith;
+}
+
+abbrev copyEdit : Edit
+copyEdit = copying 1 0 1025 0 0
+
+-- the COPY's edit; the words of file 1's slots before and after it; used + owed after it, what it saved, and what a WRITE of the same bytes would need
+pub k7-copied : (editDone (S.geometry 3) copied ≡ some copyEdit) × (
+    (take 3 (drop 16 (copied .before .store .words)) ≡ 1 ∷ 2 ∷ 0 ∷ [])
+    × ((take 3 (drop 16 (copied .after .store .words)) ≡ 1 ∷ 0 ∷ 2 ∷ [])
+    × (need (copied .after .store .words) ∷ savedSlots (S.geometry 3) (copied .before .store) copyEdit 0 0
+    ∷ need (edited (S.geometry 3) (copied .before .store) (asWrite (S.geometry 3) (copied .before .store) copyEdit 0 0) .words) ∷ []
+    ≡ 3 ∷ 1 ∷ 4 ∷ [])))
+unfolding S.rules savedSlots
+k7-copied = (refl, (refl, (refl, refl)))

@@ -11,8 +11,8 @@ use lib.ListN.{length, getD, set, length-set, List·getD-eq-default}
 use lib.Seq.{getD-set-same, getD-set-other}
 use Rattle.rules.specs.Lists.{each}
 use Rattle.rules.specs.Store.{Geometry, Store, word, isHole, sizeOf, wordOf}
-use Rattle.rules.specs.Edit.{Act, write, copy, clone, allocate, deallocate, Edit, copying, Kind, owns, given, cleared, shares, reserved, stays, firstSlot, slotCount, covers, clears, kindOf, owned, become, goesFirst, pass, plan}
-use Rattle.rules.proofs.PlanLaws.{InPool, inPool-set, each-keeps, own-slot}
+use Rattle.rules.specs.Edit.{Act, write, copy, clone, allocate, deallocate, Edit, copying, Kind, owns, given, cleared, shares, reserved, stays, firstSlot, slotCount, covers, clears, kindOf, become, goesFirst, pass, plan}
+use Rattle.rules.proofs.PlanLaws.{InPool, inPool-set, each-keeps, own-slot, SameR, sameR-refl, sameR-trans, sameR-set, each-sameR, owned-sameR}
 use Rattle.rules.proofs.SlotByteLaws.{Local, plan-before, plan-after}
 use Rattle.rules.proofs.SoundStore.{apart}
 
@@ -51,6 +51,15 @@ become-reserved cleared n ws i h r = set-reserved ws i _ h (omega arith)
 become-reserved (shares q) n ws i h r = set-reserved ws i _ h (omega arith)
 become-reserved reserved n ws i h r = set-reserved ws i _ h (omega arith)
 become-reserved stays n ws i h r = r
+
+become-sameR : (c : Kind) → c ≢ given → c ≢ reserved → (ws : List ℕ) (i : ℕ) → SameR ws (become c ws i)
+unfolding become
+become-sameR owns n m ws i = owned-sameR ws i
+become-sameR given n m ws i = absurd (n refl)
+become-sameR cleared n m ws i = sameR-set ws i _ (omega arith)
+become-sameR (shares q) n m ws i = sameR-set ws i _ (omega arith)
+become-sameR reserved n m ws i = absurd (m refl)
+become-sameR stays n m ws i = sameR-refl ws
 
 -- a slot of the first pass holds no block any more
 become-first : (c : Kind) → goesFirst c ≡ true → (ws : List ℕ) (i : ℕ) → i < length ws → getD (become c ws i) i 0 / 2 ≡ 0
@@ -132,6 +141,14 @@ module _ (at : ℕ) (kind : ℕ → Kind) (test : Kind → Bool) where
           go : (t : Bool) → getD (cond t (become (kind j) x (at + j)) x) p 0 % 2 ≡ 1
           go true = rw z (become-reserved (kind j) (kept j z) x (at + j) (rw z at l) (rw z at i))
           go false = i
+
+  -- no slot is given back or reserved: every r stays
+  steps-sameR : ((k : ℕ) → kind k ≢ given) → ((k : ℕ) → kind k ≢ reserved) → (n k : ℕ) (ws : List ℕ) → SameR ws (each step ws k n)
+  steps-sameR a b = each-sameR step (λ ws k. go ws k (test (kind k)))
+    where
+      go : (ws : List ℕ) (k : ℕ) (t : Bool) → SameR ws (cond t (become (kind k) ws (at + k)) ws)
+      go ws k true = become-sameR (kind k) (a k) (b k) ws (at + k)
+      go ws k false = sameR-refl ws
 
 -- ---- the plan of any edit
 
@@ -239,6 +256,12 @@ module _ (g : Geometry) (st : Store) (e : Edit) where
     plan-cleared c =
         let f : goesFirst (kindOf g st e k) ≡ true = ap goesFirst c in
         second-skip k f ∙ first-now (λ w. w ≡ word 0 (wordOf g (st .words) (e .file) k % 2)) f (λ x n w. rw (c, w) (getD-set-same x (at + k) _ 0 n))
+
+  -- every r stays where no slot is given back or reserved
+  pub plan-sameR : ((k : ℕ) → kindOf g st e k ≢ given) → ((k : ℕ) → kindOf g st e k ≢ reserved) → SameR (st .words) (plan g st e)
+  unfolding plan pass
+  plan-sameR a b =
+      sameR-trans (steps-sameR at (kindOf g st e) goesFirst a b count first (st .words)) (steps-sameR at (kindOf g st e) rest a b count first _)
 
   -- a reserved slot stays reserved, unless it is given back
   pub plan-reserved : (p : ℕ) → getD (st .words) p 0 % 2 ≡ 1 → ((q : ℕ) → p ≡ e .file * g .S + q → kindOf g st e q ≢ given) → getD (plan g st e) p 0 % 2 ≡ 1

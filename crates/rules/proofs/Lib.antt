@@ -8,6 +8,7 @@ pub mod ChainLaws
 pub mod ClaimProof
 pub mod CloneLaws
 pub mod CopyLaws
+pub mod CopyingLaws
 pub mod CountLaws
 pub mod DeallocateLaws
 pub mod EditForms

@@ -1,6 +1,6 @@
 -- One operation, by what it does: it sets handles, shows, or edits. What holds of each kind holds of every operation.
 use Prim.Native.Nat.{ℕ, zero, suc, _+_, _-_, _*_, _%_, _^_, _≤_, _<_, min}
-use mathlib.Core.Path.{_≡_, refl, sym, ap, _∙_}
+use mathlib.Core.Path.{_≡_, refl, sym, ap, _∙_, subst}
 use mathlib.Core.Bool.{Bool, true, false, cond, _||_, true≢false}
 use mathlib.Core.Option.{Option, none, some}
 use mathlib.Core.List.{List, [], _++_}
@@ -40,10 +40,10 @@ pub file-ok : (n : ℕ) (u : Option ℕ) → noFile u ≡ false → ((f : ℕ) �
 file-ok n none e h = absurd (true≢false e)
 file-ok n (some f) e h = h f refl
 
-pub some-inj : (f e : ℕ) → _≡_ {A = Option ℕ} (some f) (some e) → f ≡ e
-some-inj f e p = cc
+pub some-inj : {A : Type 0} (a b : A) → _≡_ {A = Option A} (some a) (some b) → a ≡ b
+some-inj a b p = cc
 
-none≢some : {A : Type 0} {a : A} → _≡_ {A = Option A} none (some a) → ⊥
+pub none≢some : {A : Type 0} {a : A} → _≡_ {A = Option A} none (some a) → ⊥
 none≢some e = let z : _≡_ {A = ℕ} 0 1 = cc in omega arith
 
 edit-inj : (e e′ : Edit) → _≡_ {A = Option Edit} (some e) (some e′) → e ≡ e′
@@ -171,6 +171,16 @@ module _ (g : Geometry) (wide : 512 ≤ g .B) (x : State) (r : Ready g x) where
       go (did-set a b k) room = record { sound = r .sound; current = a; saved = b }
       go (did-show m) room = r
       go (did-edit l m) room = record { sound = edit-change g pos (x .store) (r .sound) l room .sound; current = r .current; saved = r .saved }
+
+  -- an edit that is done: no error forbids it, and the store is what it leaves
+  pub effect-edit : (o : Op) → first (errors g x o) ≡ 0 → (e : Edit) → editOf g x o ≡ some e → Lawful g (x .store) e × (effect g x o .store ≡ edited g (x .store) e)
+  unfolding effect editOf
+  effect-edit o h e = go (op-facts o .did h)
+    where
+      go : {d : Does} → Did g x (opNumber o) d → editIn d ≡ some e → Lawful g (x .store) e × (after d .store ≡ edited g (x .store) e)
+      go (did-set a b k) q = absurd (none≢some q)
+      go (did-show m) q = absurd (none≢some q)
+      go (did-edit {e = d} l m) q = let same : d ≡ e = some-inj d e q in (subst (Lawful g (x .store)) same l, ap (edited g (x .store)) same)
 
   -- a file that is no edit's target keeps its bytes and its size
   pub record Same (f : ℕ) (st′ : Store) : Type 0 where

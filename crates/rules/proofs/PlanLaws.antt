@@ -172,9 +172,12 @@ owned-r ws w x (kept o e h) = refl
 owned-r ws w x (filled e) = omega arith
 owned-r ws w x (split o e h) = omega arith
 
+pub owned-sameR : (ws : List ℕ) (i : ℕ) → SameR ws (set ws i (owned ws (getD ws i 0)))
+owned-sameR ws i = sameR-set ws i _ (owned-r ws (getD ws i 0) _ (owned-cases ws (getD ws i 0)))
+
 pub own-sameR : (at : ℕ) (ws : List ℕ) (k : ℕ) → SameR ws (own at ws k)
 unfolding own
-own-sameR at ws k = sameR-set ws (at + k) _ (owned-r ws (getD ws (at + k) 0) _ (owned-cases ws (getD ws (at + k) 0)))
+own-sameR at ws k = owned-sameR ws (at + k)
 
 pub share-sameR : (from to : ℕ) (ws : List ℕ) (k : ℕ) → SameR ws (share from to ws k)
 unfolding share

@@ -12,5 +12,6 @@ pub mod Claim
 pub mod Place
 pub mod Seek
 pub mod Emptying
+pub mod Copying
 pub mod Client
 pub mod Builder

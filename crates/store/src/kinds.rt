@@ -78,7 +78,7 @@ fn copy_kind(g: Geometry, words: &[u32], e: Edit, s: Source, size: usize, k: usi
     Kind::Cleared
 }
 
-// What becomes of slot k of e's file, whose size is `size`; w is the slot's word before the edit. `words` are those of the other files.
+// What becomes of slot k of e's file, whose size is `size`; w is the slot's word before the edit. Of `words` only those of other files count.
 pub fn kind_of(g: Geometry, words: &[u32], e: Edit, size: usize, k: usize, w: u32) -> Kind
     requires { ⌜ SlotOf (geometryOf g) e k × (length (now words) ≡ geometryOf g .F * geometryOf g .S) ⌝ }
     ensures { λ r. ⌜ KindIs (geometryOf g) e size (now (words .entry)) k w (kindFrom r) ⌝ }

@@ -3,7 +3,6 @@ use Prim.Native.Nat.{ℕ, _+_, _*_, _/_, _%_, _≤_, _<_, max}
 use mathlib.Core.Path.{_≡_, refl, _∙_}
 use mathlib.Core.List.{List}
 use mathlib.Core.Logic.{_≢_}
-use native.Mathlib.Nat.{mul-le-mul-right}
 use native.Mathlib.Omega.{arith}
 use lib.ListN.{length, getD, length-set}
 use lib.Seq.{getD-set-same, getD-set-other}
@@ -15,7 +14,7 @@ use Rattle.rules.proofs.EditForms.{allocate-is}
 use Rattle.rules.proofs.PlanLaws.{each-keeps, set-keeps}
 use Rattle.rules.proofs.SlotByteLaws.{Local}
 use Rattle.rules.proofs.KindLaws.{slot-now}
-use Rattle.rules.proofs.SoundStore.{Sound, Edited, other-words, slots-fit, plan-past}
+use Rattle.rules.proofs.SoundStore.{Sound, Edited, other-words, slots-fit, in-table, plan-past}
 
 -- slots of two words that hold the same block show the same bytes
 pub same-block : (g : Geometry) (m : List ℕ) (w x j : ℕ) → w / 2 ≡ x / 2 → slotByte g m w j ≡ slotByte g m x j
@@ -48,9 +47,6 @@ plan-blocks at n k ws =
     (λ x j l u p. record { slots = reserve-long at x j ∙ p .slots; block = λ i. reserve-block at x j i ∙ p .block i }) (record { slots = refl; block = λ p. refl })
 
 module _ (g : Geometry) (pos : 0 < g .B) (st : Store) (snd : Sound g st) (f off end : ℕ) (hf : f < g .F) (some : off < end) (fits : end ≤ g .S * g .B) where
-  in-table : f * g .S + (firstSlot g off + slotCount g off end) ≤ length (st .words)
-  in-table = omega (arith, slots-fit g pos off end some fits, snd .slots, mul-le-mul-right (g .S) hf)
-
   blocks : SameBlocks (st .words) (planAllocate g (st .words) f off end)
   unfolding planAllocate
   blocks = plan-blocks (f * g .S) (slotCount g off end) (firstSlot g off) (st .words)
@@ -89,4 +85,4 @@ module _ (g : Geometry) (pos : 0 < g .B) (st : Store) (snd : Sound g st) (f off 
   allocate-reserved q l u =
       rw (allocate-is g st f off end some)
       (slot-now (f * g .S) (reserve (f * g .S)) (reserve-local (f * g .S)) (reserve-long (f * g .S)) (λ w. w % 2 ≡ 1) q (st .words)
-      (λ x n w. reserve-now (f * g .S) x q (omega (arith, n, in-table))) (slotCount g off end) (firstSlot g off) l u)
+      (λ x n w. reserve-now (f * g .S) x q (omega (arith, n, in-table g pos off end some fits st snd f hf))) (slotCount g off end) (firstSlot g off) l u)

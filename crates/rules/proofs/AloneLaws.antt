@@ -12,7 +12,7 @@ use Rattle.rules.specs.Lists.{each}
 use Rattle.rules.specs.Store.{Geometry, Store, word, isHole, sizeOf, wordOf}
 use Rattle.rules.specs.Edit.{Act, write, copy, clone, allocate, deallocate, Edit, copying, Kind, owns, given, cleared, shares, reserved, stays, firstSlot, slotCount, covers, clears, kindOf, owned, become, goesFirst, pass, plan}
 use Rattle.rules.proofs.PlanLaws.{each-keeps, own-slot, two-holders}
-use Rattle.rules.proofs.KindLaws.{step, step-long, steps-long}
+use Rattle.rules.proofs.KindLaws.{step, step-long, firstPass, first-long}
 
 -- slot i has a block that no other slot holds
 pub record Alone (ws : List ℕ) (i : ℕ) : Type 0 where
@@ -106,23 +106,10 @@ no-shares g st f off end deallocate k o q p e = go (covers g (sizeOf st f) off e
     go false true e = let z : _≡_ {A = ℕ} 0 1 = cc in omega arith
     go false false e = let z : _≡_ {A = ℕ} 0 1 = cc in omega arith
 
-module _ (g : Geometry) (st : Store) (e : Edit) where
-  abbrev at : ℕ
-  at = e .file * g .S
-
-  abbrev first : ℕ
-  first = firstSlot g (e .off)
-
-  abbrev count : ℕ
-  count = slotCount g (e .off) (e .end)
-
-  abbrev rest : Kind → Bool
-  rest c = not (goesFirst c)
-
-  -- a slot that owns a block has one that no other slot holds
-  pub plan-alone : e .file * g .S + (firstSlot g (e .off) + slotCount g (e .off) (e .end)) ≤ length (st .words)
-      → (k : ℕ) → firstSlot g (e .off) ≤ k → k < firstSlot g (e .off) + slotCount g (e .off) (e .end) → kindOf g st e k ≡ owns → Alone (plan g st e) (e .file * g .S + k)
-  unfolding plan pass
-  plan-alone inside k l u o =
-      run-alone at (kindOf g st e) rest (no-shares g st (e .file) (e .off) (e .end) (e .act) k o) refl count first _
-      (omega (arith, steps-long at (kindOf g st e) goesFirst count first (st .words))) k l u o
+-- a slot that owns a block has one that no other slot holds
+pub plan-alone : (g : Geometry) (st : Store) (e : Edit) → e .file * g .S + (firstSlot g (e .off) + slotCount g (e .off) (e .end)) ≤ length (st .words)
+    → (k : ℕ) → firstSlot g (e .off) ≤ k → k < firstSlot g (e .off) + slotCount g (e .off) (e .end) → kindOf g st e k ≡ owns → Alone (plan g st e) (e .file * g .S + k)
+unfolding plan firstPass pass
+plan-alone g st e inside k l u o =
+    run-alone (e .file * g .S) (kindOf g st e) (λ c. not (goesFirst c)) (no-shares g st (e .file) (e .off) (e .end) (e .act) k o) refl
+    (slotCount g (e .off) (e .end)) (firstSlot g (e .off)) (firstPass g st e) (omega (arith, first-long g st e)) k l u o

@@ -6,7 +6,7 @@ use mathlib.Core.Bool.{Bool, true, false, cond, _&&_, not}
 use mathlib.Core.Option.{some}
 use mathlib.Core.List.{List, [], _∷_}
 use mathlib.Core.Logic.{_≢_, _⊎_, inl, inr}
-use native.Mathlib.Nat.{le-refl, add-zero, add-suc, suc-add, mul-le-mul-right}
+use native.Mathlib.Nat.{le-refl, add-zero, add-suc, suc-add}
 use native.Mathlib.Decide.{ℕ-discrete, decLe, decLt}
 use native.Mathlib.Omega.{arith}
 use borrow.Author.Tests.{eq-eqb, ne-eqb}
@@ -22,7 +22,7 @@ use Rattle.rules.proofs.CountLaws.{sumTo-ext, sumTo-add}
 use Rattle.rules.proofs.NeedLaws.{holders-lost, bit-reserved, need-to, top-set, le-top, clear}
 use Rattle.rules.proofs.PlanLaws.{each-keeps, SameR}
 use Rattle.rules.proofs.SlotByteLaws.{Local, plan-before, plan-after}
-use Rattle.rules.proofs.SoundStore.{Sound, slots-fit, slot-in}
+use Rattle.rules.proofs.SoundStore.{Sound, in-table, slot-in}
 use Rattle.rules.proofs.KindLaws.{slot-now, plan-long, plan-outside, plan-cleared, plan-sameR}
 use Rattle.rules.proofs.AloneLaws.{Alone, set-alone, plan-alone}
 use Rattle.rules.proofs.EditForms.{edited-some}
@@ -182,8 +182,8 @@ module _ (g : Geometry) (pos : 0 < g .B) (st : Store) (snd : Sound g st) (f off 
   abbrev count : ℕ
   count = slotCount g off end
 
-  in-table : f * g .S + (firstSlot g off + slotCount g off end) ≤ length (st .words)
-  in-table = omega (arith, slots-fit g pos off end some-byte fits, snd .slots, mul-le-mul-right (g .S) hf)
+  table : f * g .S + (firstSlot g off + slotCount g off end) ≤ length (st .words)
+  table = in-table g pos off end some-byte fits st snd f hf
 
   kind-cleared : (k : ℕ) → clears g st e s soff k ≡ true → kindOf g st e k ≡ cleared
   unfolding kindOf
@@ -215,15 +215,15 @@ module _ (g : Geometry) (pos : 0 < g .B) (st : Store) (snd : Sound g st) (f off 
   hole-is k h =
       let c = covered-is g (sizeAfter st e) off end k (and-left (covers g (sizeAfter st e) off end k) (fromHoles g st e s soff k) h) in
       let q = slot-in g pos off end some-byte fits k (omega (arith, c .starts, pos)) (omega (arith, c .some-byte, c .ends, pos)) in
-      plan-cleared g st e in-table k (q .0) (q .1) (kind-cleared k h)
+      plan-cleared g st e table k (q .0) (q .1) (kind-cleared k h)
 
   module _ (k : ℕ) (l : firstSlot g off ≤ k) (u : k < firstSlot g off + slotCount g off end) where
     copy-alone : clears g st e s soff k ≡ false → Alone (plan g st e) (f * g .S + k)
-    copy-alone h = plan-alone g st e in-table k l u (kind-owned k h)
+    copy-alone h = plan-alone g st e table k l u (kind-owned k h)
 
     write-alone : Alone (plan g st v) (f * g .S + k)
     unfolding kindOf
-    write-alone = plan-alone g st v in-table k l u refl
+    write-alone = plan-alone g st v table k l u refl
 
     copy-settled : Settled (plan g st e) (f * g .S + k)
     copy-settled = go (clears g st e s soff k) refl
@@ -247,11 +247,11 @@ module _ (g : Geometry) (pos : 0 < g .B) (st : Store) (snd : Sound g st) (f off 
   unfolding savedSlots
   copy-room =
       let at : ℕ = f * g .S in
-      let copied = run-gain at count first (plan g st e) (omega (arith, plan-long g st e, in-table)) copy-settled in
-      let wrote = run-gain at count first (plan g st v) (omega (arith, plan-long g st v, in-table)) (λ q l u. inl (write-alone q l u)) in
+      let copied = run-gain at count first (plan g st e) (omega (arith, plan-long g st e, table)) copy-settled in
+      let wrote = run-gain at count first (plan g st v) (omega (arith, plan-long g st v, table)) (λ q l u. inl (write-alone q l u)) in
       let base : each (emptied at) (plan g st v) first count ≡ each (emptied at) (plan g st e) first count
-      = run-same at count first (st .words) (plan g st v) in-table write-sameR (plan-outside g st v)
-      ∙ sym (run-same at count first (st .words) (plan g st e) in-table copy-sameR (plan-outside g st e)) in
+      = run-same at count first (st .words) (plan g st v) table write-sameR (plan-outside g st v)
+      ∙ sym (run-same at count first (st .words) (plan g st e) table copy-sameR (plan-outside g st e)) in
       let sums : sumTo count (λ j. gain (getD (plan g st v) (at + (first + j)) 0))
       ≡ sumTo count (λ j. gain (getD (plan g st e) (at + (first + j)) 0)) + sumTo count (λ j. bit (clears g st e s soff (first + j) && not (isReserved (wordOf g (st .words) f (first + j)))))
       = sumTo-ext count _ _ (λ j h. saved (first + j) (omega arith) (omega arith)) ∙ sumTo-add count _ _ in
@@ -262,7 +262,7 @@ module _ (g : Geometry) (pos : 0 < g .B) (st : Store) (snd : Sound g st) (f off 
     hole = hole-is;
     block = λ k t h.
         let q = slot-in g pos off end some-byte fits k (t .1) (t .0) in
-        (alone-unshared (plan g st e) (f * g .S + k) (omega (arith, plan-long g st e, in-table, q)) (copy-alone k (q .0) (q .1) h), copy-sameR .r (f * g .S + k));
+        (alone-unshared (plan g st e) (f * g .S + k) (omega (arith, plan-long g st e, table, q)) (copy-alone k (q .0) (q .1) h), copy-sameR .r (f * g .S + k));
     room = rw (edited-some g st v some-byte) copy-room;
   }
 

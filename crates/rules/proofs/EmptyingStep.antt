@@ -19,7 +19,7 @@ use Rattle.rules.specs.Emptying.{Empties, GivesBackRoom}
 use Rattle.rules.proofs.GeometryLaws.{Good, block-pos}
 use Rattle.rules.proofs.EditForms.{edited-none, edited-some}
 use Rattle.rules.proofs.KindLaws.{plan-long, plan-outside, plan-given}
-use Rattle.rules.proofs.SoundStore.{Sound, ceil-le, first-before, slots-fit, slot-in}
+use Rattle.rules.proofs.SoundStore.{Sound, ceil-le, first-before, slots-fit, in-table, slot-in}
 use Rattle.rules.proofs.OperationLaws.{Ready, Performed, refused, nospc, done}
 use Rattle.rules.proofs.ChainLaws.{Step, as-op}
 use Rattle.rules.proofs.EmptyingLaws.{Emptied, gives-back}
@@ -40,7 +40,7 @@ module _ (g : Geometry) (pos : 0 < g .B) (st : Store) (snd : Sound g st) (f : �
 
   module _ (some-byte : 0 < size) where
     inside : f * g .S + (firstSlot g 0 + slotCount g 0 size) ≤ length (st .words)
-    inside = omega (arith, slots-fit g pos 0 size some-byte (snd .fits f hf), snd .slots, mul-le-mul-right (g .S) hf)
+    inside = in-table g pos 0 size some-byte (snd .fits f hf) st snd f hf
 
     -- a slot at or past the size was 0, any other is given back
     own-back : (k : ℕ) → k < g .S → wordOf g (plan g st emptying) f k ≡ 0

@@ -124,6 +124,10 @@ module _ (g : Geometry) (pos : 0 < g .B) (off end : ℕ) (some : off < end) (fit
   pub slots-fit : firstSlot g off + slotCount g off end ≤ g .S
   slots-fit = omega (arith, ceil-le pos end (g .S) fits, first-before)
 
+  -- they lie in the table of a sound store
+  pub in-table : (st : Store) → Sound g st → (f : ℕ) → f < g .F → f * g .S + (firstSlot g off + slotCount g off end) ≤ length (st .words)
+  in-table st snd f hf = omega (arith, slots-fit, snd .slots, mul-le-mul-right (g .S) hf)
+
   -- a plan of them changes no word of its file behind the region
   pub plan-past : (f : ℕ) (step : List ℕ → ℕ → List ℕ) → Local (f * g .S) step → (ws : List ℕ) (k : ℕ) → end ≤ k * g .B
       → wordOf g (each step ws (firstSlot g off) (slotCount g off end)) f k ≡ wordOf g ws f k

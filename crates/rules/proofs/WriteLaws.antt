@@ -4,7 +4,7 @@ use mathlib.Core.Path.{_≡_, refl, sym, ap, _∙_}
 use mathlib.Core.Bool.{Bool, true, false, cond, _&&_, not, true≢false}
 use mathlib.Core.List.{List}
 use mathlib.Core.Logic.{_≢_, _⊎_, inl, inr}
-use native.Mathlib.Nat.{le-refl, le-trans, mul-le-mul-right, div-add-mod', mod-lt}
+use native.Mathlib.Nat.{le-refl, le-trans, div-add-mod', mod-lt}
 use native.Mathlib.Decide.{decLe, decLt}
 use native.Mathlib.Omega.{arith}
 use borrow.Author.Tests.{lt-ltb, le-ltb, le-leb, lt-leb, leb-true, ltb-true, eq-eqb}
@@ -18,7 +18,7 @@ use Rattle.rules.proofs.EditForms.{edited-some, plain, owned-later, blo
 use Rattle.rules.proofs.PlanLaws.{InPool, plan-pool, own-reserved, own-alone}
 use Rattle.rules.proofs.KindLaws.{firstPass, first-long, first-other, first-skip, first-hole, first-pool, plan-long, plan-outside, plan-other}
 use Rattle.rules.proofs.SlotByteLaws.{view, Wrote, wrote}
-use Rattle.rules.proofs.SoundStore.{div-le, div-ge, div-lt, ceil-le, Sound, Edited, apart, in-file, slots-fit, first-before, slot-in}
+use Rattle.rules.proofs.SoundStore.{div-le, div-ge, div-lt, ceil-le, Sound, Edited, apart, in-file, slots-fit, in-table, first-before, slot-in}
 use Rattle.xdr.proofs.BoolLaws.{and-false, and-left, and-right}
 
 pub outside : (off end i : ℕ) → (i < off) ⊎ (end ≤ i) → within off end i ≡ false
@@ -136,8 +136,8 @@ module _ (g : Geometry) (pos : 0 < g .B) (st : Store) (snd : Sound g st) (e : Ed
   in-file-slots : firstSlot g (e .off) + slotCount g (e .off) (e .end) ≤ g .S
   in-file-slots = slots-fit g pos (e .off) (e .end) some fits
 
-  in-table : e .file * g .S + (firstSlot g (e .off) + slotCount g (e .off) (e .end)) ≤ length (st .words)
-  in-table = omega (arith, in-file-slots, snd .slots, mul-le-mul-right (g .S) hf)
+  table : e .file * g .S + (firstSlot g (e .off) + slotCount g (e .off) (e .end)) ≤ length (st .words)
+  table = in-table g pos (e .off) (e .end) some fits st snd (e .file) hf
 
   -- the store behind the first pass
   between : Store
@@ -157,7 +157,7 @@ module _ (g : Geometry) (pos : 0 < g .B) (st : Store) (snd : Sound g st) (e : Ed
       let q : ℕ = i / g .B in
       let c = s .covered q f in
       let here = slot-in g pos (e .off) (e .end) some fits q (omega (arith, c .starts, pos)) (omega (arith, c .some-byte, c .ends, pos)) in
-      hole-zero g (st .mem) (wordOf g (firstPass g st e) (e .file) q) (i % g .B) (eq-eqb _ 0 (first-hole g st e in-table q (here .0) (here .1) f))
+      hole-zero g (st .mem) (wordOf g (firstPass g st e) (e .file) q) (i % g .B) (eq-eqb _ 0 (first-hole g st e table q (here .0) (here .1) f))
 
   byte-stays : (i : ℕ) → isOwned (kindOf g st e (i / g .B)) ≡ false → goesFirst (kindOf g st e (i / g .B)) ≡ false → byteAt g st (e .file) i ≡ 0
   unfolding byteAt
@@ -204,13 +204,13 @@ module _ (g : Geometry) (pos : 0 < g .B) (st : Store) (snd : Sound g st) (e : Ed
 
     plan-in : InPool (g .N) (plan g st e)
     plan-in = rw (plan-owned g st e (s .kinds)) (plan-pool (blockless g st e) (e .file * g .S) (g .N) (slotCount g (e .off) (e .end)) (firstSlot g (e .off)) (firstPass g st e)
-        (omega (arith, in-table, first-long g st e)) (first-pool g st e (g .N) (snd .pool)) (omega (arith, rw (plan-owned g st e (s .kinds)) at plan-need)))
+        (omega (arith, table, first-long g st e)) (first-pool g st e (g .N) (snd .pool)) (omega (arith, rw (plan-owned g st e (s .kinds)) at plan-need)))
 
     stored : Wrote (blockless g st e) g (e .file * g .S) (firstSlot g (e .off)) (slotCount g (e .off) (e .end)) (within (e .off) (e .end)) (newByte g st e)
         (firstPass g st e) (st .mem) (plan g st e) (editBytes g st e)
     stored = rw (bytes-owned g st e, plan-owned g st e (s .kinds))
         (wrote (blockless g st e) g (e .file * g .S) (within (e .off) (e .end)) (newByte g st e) (slotCount g (e .off) (e .end)) (firstSlot g (e .off)) (firstPass g st e) (st .mem)
-        (omega (arith, in-table, first-long g st e)) (snd .bytes) (first-pool g st e (g .N) (snd .pool)) (rw (plan-owned g st e (s .kinds)) at plan-in))
+        (omega (arith, table, first-long g st e)) (snd .bytes) (first-pool g st e (g .N) (snd .pool)) (rw (plan-owned g st e (s .kinds)) at plan-in))
 
     after : Store
     after = record { sizes = set (st .sizes) (e .file) (sizeAfter st e); words = plan g st e; mem = editBytes g st e }
@@ -268,9 +268,6 @@ write-stores g st f off end new = record {
 
 module _ (g : Geometry) (pos : 0 < g .B) (st : Store) (snd : Sound g st) (f off end : ℕ) (hf : f < g .F) (some : off < end) (fits : end ≤ g .S * g .B)
     (new : ℕ → ℕ) where
-  write-table : f * g .S + (firstSlot g off + slotCount g off end) ≤ length (st .words)
-  write-table = omega (arith, slots-fit g pos off end some fits, snd .slots, mul-le-mul-right (g .S) hf)
-
   write-words : edited g st (writing f off end new) .words ≡ planWrite g (st .words) f off end
   write-words = rw (edited-some g st (writing f off end new) some) (plan-write g st f off end new)
 
@@ -278,7 +275,7 @@ module _ (g : Geometry) (pos : 0 < g .B) (st : Store) (snd : Sound g st) (f off 
   pub write-room : ((q : ℕ) → firstSlot g off ≤ q → q < firstSlot g off + slotCount g off end → wordOf g (st .words) f q % 2 ≡ 1)
       → need (edited g st (writing f off end new) .words) ≤ g .N
   unfolding planWrite
-  write-room r = rw write-words (le-trans (own-reserved (f * g .S) (slotCount g off end) (firstSlot g off) (st .words) write-table r .need) (snd .room))
+  write-room r = rw write-words (le-trans (own-reserved (f * g .S) (slotCount g off end) (firstSlot g off) (st .words) (in-table g pos off end some fits st snd f hf) r .need) (snd .room))
 
   -- a WRITE into slots that hold their blocks alone changes no slot word, and the need is what it was
   pub write-alone : ((q : ℕ) → firstSlot g off ≤ q → q < firstSlot g off + slotCount g off end → holeOrShared (st .words) (wordOf g (st .words) f q) ≡ false)

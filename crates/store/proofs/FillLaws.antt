@@ -4,7 +4,7 @@ use mathlib.Core.Path.{_≡_, refl, sym, ap, subst, _∙_}
 use mathlib.Core.Bool.{Bool, true, false, cond, true≢false}
 use mathlib.Core.List.{List}
 use mathlib.Core.Logic.{_≢_, _⊎_, inl, inr}
-use native.Mathlib.Nat.{add-zero, mod-lt, mul-le-mul-right}
+use native.Mathlib.Nat.{add-zero, mod-lt}
 use native.Mathlib.Omega.{arith}
 use lib.ListN.{length, getD, take, drop, length-drop}
 use lib.Seq.{length-take-le}
@@ -14,7 +14,7 @@ use Rattle.rules.specs.Edit.{Edit, Kind, owns, given, cleared, shares, reserved
 use Rattle.rules.proofs.KindLaws.{plan-long, plan-other}
 use Rattle.rules.proofs.PlanLaws.{InPool}
 use Rattle.rules.proofs.GeometryLaws.{Good, good, block-pos}
-use Rattle.rules.proofs.SoundStore.{Sound, div-lt, apart, in-file, slots-fit}
+use Rattle.rules.proofs.SoundStore.{Sound, div-lt, apart, in-file, slots-fit, in-table}
 use Rattle.rules.proofs.SoundLaws.{sound-facts}
 use Rattle.store.specs.declared.edit.Act as Code
 use Rattle.store.specs.declared.edit.Source.{Source}
@@ -73,7 +73,7 @@ module _ {g : Geometry} {st : Store} {e : CodeEdit.Edit} {d : List ℕ} {size : 
   slots-in = slots-fit g (block-pos good-plan) (e .off) (e .end) (h .edit .some) (h .edit .fits)
 
   inside : e .file * g .S + (firstSlot g (e .off) + slotCount g (e .off) (e .end)) ≤ length (st .words)
-  inside = omega (arith, slots-in, snd .slots, mul-le-mul-right (g .S) (h .edit .file))
+  inside = in-table g (block-pos good-plan) (e .off) (e .end) (h .edit .some) (h .edit .fits) st snd (e .file) (h .edit .file)
 
   words-long : length words ≡ g .F * g .S
   words-long = ap length (h .words-are) ∙ plan-long g st (editFrom e d) ∙ snd .slots

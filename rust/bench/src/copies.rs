@@ -1,4 +1,4 @@
-//! COPYs of a sparse file of full size, onto holes and onto blocks.
+//! COPYs of a file of full size: of a sparse one, onto holes and onto blocks, and of a full one.
 
 use compare::wire::{self, Transfer, ZEROS};
 use second::{Geometry, Store};
@@ -19,6 +19,8 @@ const FULL: usize = 2;
 pub struct Image {
     name: &'static str,
     geometry: Geometry,
+    /// The file that is copied.
+    from: usize,
     /// Whether the target's slots hold blocks before each COPY.
     onto_blocks: bool,
 }
@@ -27,6 +29,7 @@ const fn onto_holes(geometry: Geometry) -> Image {
     Image {
         name: "16 written slots of 1,024, onto holes",
         geometry,
+        from: IMAGE,
         onto_blocks: false,
     }
 }
@@ -35,15 +38,27 @@ const fn onto_blocks(geometry: Geometry) -> Image {
     Image {
         name: "16 written slots of 1,024, onto blocks",
         geometry,
+        from: IMAGE,
         onto_blocks: true,
     }
 }
 
-pub const ALL: [Image; 4] = [
+const fn full(geometry: Geometry) -> Image {
+    Image {
+        name: "1,024 written slots, onto blocks",
+        geometry,
+        from: FULL,
+        onto_blocks: true,
+    }
+}
+
+pub const ALL: [Image; 6] = [
     onto_holes(LARGE),
     onto_blocks(LARGE),
+    full(LARGE),
     onto_holes(LARGEST),
     onto_blocks(LARGEST),
+    full(LARGEST),
 ];
 
 impl Timed for Image {
@@ -60,7 +75,7 @@ impl Timed for Image {
             false => emptied(),
         };
         let work = Work::Again {
-            request: copied(IMAGE),
+            request: copied(self.from),
             back: Some(back),
         };
         Case::checked(self.geometry, self.store(), CALLS, work)

@@ -1,11 +1,11 @@
 -- The hypotheses of the reservation and of the read-back are met: on P1 and P3, and on P5 and P6 with the CLONE of the region between, each
--- followed by a READ. So are those of the law on emptying: after P5 either of the two files is emptied; and of the law on COPY, with a reserved slot
--- that it makes a hole and a WRITE into it.
+-- followed by a READ; and with a COPY between that makes the reserved slot a hole. So are those of the law on emptying: after P5 either of the two files
+-- is emptied; and of the law on COPY.
 use Prim.Native.Nat.{ℕ, zero, suc, _/_}
 use mathlib.Core.Path.{_≡_, refl, sym, ap, _∙_}
 use mathlib.Core.Bool.{Bool, true, false, _&&_, not, true≢false}
 use mathlib.Core.Option.{Option, none, some}
-use mathlib.Core.List.{List, [], _∷_, map, List·Memᴰ, List·Memᴰ·not-nil, List·Memᴰ·cases-cons}
+use mathlib.Core.List.{List, [], _∷_, _++_, map, List·Memᴰ, List·Memᴰ·not-nil, List·Memᴰ·cases-cons}
 use mathlib.Core.Logic.{_⊎_, inl, inr}
 use native.Mathlib.Omega.{arith}
 use borrow.Author.Tests.{eq-eqb}
@@ -180,20 +180,16 @@ pub p5-emptied : (given 0 (emptying 0 1024) ≡ 3 ∷ 1 ∷ 2 ∷ 0 ∷ []) × (
 unfolding S.rules
 p5-emptied = (refl, refl)
 
--- ---- a COPY that keeps holes, in a pool of three blocks that is full: file 1 has slot 0 reserved and slot 1 written, file 0 slot 2 alone. PUTFH,
--- ALLOCATE, WRITE; PUTFH, WRITE, SAVEFH, PUTFH, COPY of all 1,025 bytes; PUTFH, WRITE into the reserved slot
+-- ---- a COPY that makes a reserved slot a hole, in a pool of two blocks that is full: PUTFH, ALLOCATE, WRITE to file 1; PUTFH, WRITE into slot 1 of file
+-- 0, SAVEFH, PUTFH, COPY of file 0's slot 0, a hole; PUTFH, WRITE into the reserved slot
 
 abbrev third : List Event
-third = events 3 (
-    (S.on 1 ∷ ALLOCATE zeroId 0 512 ∷ WRITE zeroId 512 2 (7 ∷ []) ∷ [])
-    ∷ (S.on 0 ∷ WRITE zeroId 1024 2 (5 ∷ []) ∷ SAVEFH ∷ S.on 1 ∷ COPY zeroId zeroId 0 0 0 false true ∷ [])
-    ∷ (S.on 1 ∷ WRITE zeroId 0 2 (9 ∷ []) ∷ []) ∷ [])
+third = events 2 (
+    (S.on 1 ∷ ALLOCATE zeroId 0 512 ∷ WRITE zeroId 0 2 (7 ∷ []) ∷ [])
+    ∷ (S.on 0 ∷ WRITE zeroId 512 2 (5 ∷ []) ∷ SAVEFH ∷ S.on 1 ∷ COPY zeroId zeroId 0 0 512 false true ∷ []) ∷ S.write 1 (9 ∷ []) ∷ [])
 
-abbrev copied : Event
-copied = event 7 third
-
--- between the ALLOCATE and the WRITE stands the COPY, which leaves the reserved slot a hole
-pub k7-allocated : Allocated (S.geometry 3) third 1 0 512 0 (9 ∷ []) (event 9 third)
+-- between the ALLOCATE and the WRITE stands the COPY
+pub k7-allocated : Allocated (S.geometry 2) third 1 0 512 0 (9 ∷ []) (event 9 third)
 unfolding S.rules
 k7-allocated = record {
   a = event 1 third;
@@ -202,7 +198,7 @@ k7-allocated = record {
   id = zeroId;
   allocate = ((_, refl), refl);
   done = refl;
-  kept = λ z k m s b. kept-by (S.geometry 3) (take 7 (drop 2 third)) refl z m 1 k b;
+  kept = λ z k m s b. kept-by (S.geometry 2) (take 7 (drop 2 third)) refl z m 1 k b;
   stable = 2;
   write = ((_, refl), refl);
   some-byte = omega arith;
@@ -210,15 +206,31 @@ k7-allocated = record {
   ends = omega arith;
 }
 
-abbrev copyEdit : Edit
-copyEdit = copying 1 0 1025 0 0
+-- file 1's words after the COPY, used + owed then, and after the WRITE
+pub k7-seen : take 2 (drop 16 (event 7 third .after .store .words)) ++ (need (event 7 third .after .store .words) ∷ need (event 9 third .after .store .words) ∷ []) ≡ 1 ∷ 0 ∷ 2 ∷ 2 ∷ []
+unfolding S.rules
+k7-seen = refl
 
--- the COPY's edit; the words of file 1's slots before and after it; used + owed after it, what it saved, and what a WRITE of the same bytes would need
-pub k7-copied : (editDone (S.geometry 3) copied ≡ some copyEdit) × (
-    (take 3 (drop 16 (copied .before .store .words)) ≡ 1 ∷ 2 ∷ 0 ∷ [])
-    × ((take 3 (drop 16 (copied .after .store .words)) ≡ 1 ∷ 0 ∷ 2 ∷ [])
-    × (need (copied .after .store .words) ∷ savedSlots (S.geometry 3) (copied .before .store) copyEdit 0 0
-    ∷ need (edited (S.geometry 3) (copied .before .store) (asWrite (S.geometry 3) (copied .before .store) copyEdit 0 0) .words) ∷ []
-    ≡ 3 ∷ 1 ∷ 4 ∷ [])))
+-- ---- a COPY whose second slot takes the block that its first one frees, in the same pool: PUTFH, WRITE into slot 0 of file 1; PUTFH, WRITE into slot 1 of
+-- file 0, SAVEFH, PUTFH, COPY of all 513 bytes
+
+abbrev copied : Event
+copied = event 6 (events 2 (S.write 1 (7 ∷ []) ∷ (S.on 0 ∷ WRITE zeroId 512 2 (5 ∷ []) ∷ SAVEFH ∷ S.on 1 ∷ COPY zeroId zeroId 0 0 0 false true ∷ []) ∷ []))
+
+abbrev copyEdit : Edit
+copyEdit = copying 1 0 513 0 0
+
+pub k7-copies : editDone (S.geometry 2) copied ≡ some copyEdit
+unfolding S.rules
+k7-copies = refl
+
+-- file 1's words before and after it; used + owed after it, the slots saved, and what a WRITE of the same bytes would need
+abbrev saving : Event → List ℕ
+saving z =
+    let st = z .before .store in
+    take 2 (drop 16 (st .words)) ++ take 2 (drop 16 (z .after .store .words))
+    ++ (need (z .after .store .words) ∷ savedSlots (S.geometry 2) st copyEdit 0 0 ∷ need (edited (S.geometry 2) st (asWrite (S.geometry 2) st copyEdit 0 0) .words) ∷ [])
+
+pub k7-copied : saving copied ≡ 2 ∷ 0 ∷ 0 ∷ 2 ∷ 2 ∷ 1 ∷ 3 ∷ []
 unfolding S.rules savedSlots
-k7-copied = (refl, (refl, (refl, refl)))
+k7-copied = refl

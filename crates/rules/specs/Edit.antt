@@ -79,7 +79,7 @@ covers g size off end k = leb off (k * g .B) && ltb (k * g .B) size && leb (min 
 abbrev pub sizeAfter : Store → Edit → ℕ
 sizeAfter st e = max (sizeOf st (e .file)) (e .end)
 
--- the place of the source that belongs to place p of the region
+-- the place of the source that matches place p of the region
 abbrev pub sourcePlace : Edit → ℕ → ℕ → ℕ
 sourcePlace e soff p = soff + (p - e .off)
 
@@ -87,7 +87,7 @@ sourcePlace e soff p = soff + (p - e .off)
 unfoldable pub fromHoles : Geometry → Store → Edit → ℕ → ℕ → ℕ → Bool
 fromHoles g st e s soff k = allTo (g .B) (λ j. let p = k * g .B + j in not (within (e .off) (e .end) p) || holeAt g st s (sourcePlace e soff p))
 
--- COPY keeps holes (request K7): slot k's bytes below the new size all lie in the region, and are matched by holes alone
+-- COPY makes slot k a hole (request K7): its bytes below the new size all lie in the region and are matched by holes alone
 unfoldable pub clears : Geometry → Store → Edit → ℕ → ℕ → ℕ → Bool
 clears g st e s soff k = covers g (sizeAfter st e) (e .off) (e .end) k && fromHoles g st e s soff k
 
@@ -116,6 +116,7 @@ become (shares p) ws i = set ws i (word (getD ws p 0 / 2) (getD ws i 0 % 2))
 become reserved ws i = set ws i (word (getD ws i 0 / 2) 1)
 become stays ws i = ws
 
+-- the slot becomes a hole, before any other takes a block
 abbrev pub goesFirst : Kind → Bool
 goesFirst owns = false
 goesFirst given = true
@@ -124,6 +125,7 @@ goesFirst (shares p) = false
 goesFirst reserved = false
 goesFirst stays = false
 
+-- the slot is to have a block of its own
 abbrev pub isOwned : Kind → Bool
 isOwned owns = true
 isOwned given = false

@@ -58,15 +58,10 @@ static uint32_t make_empty(uint64_t files, size_t mem_len)
     return store_make_empty(files, SLOTS, BLOCKS, BLOCK_SIZE, store.sizes, FILES, store.words, FILES * SLOTS, store.mem, mem_len);
 }
 
-static uint32_t soundness(uint64_t files, size_t mem_len)
-{
-    return store_soundness(files, SLOTS, BLOCKS, BLOCK_SIZE, store.sizes, FILES, store.words, FILES * SLOTS, store.mem, mem_len);
-}
-
-static uint32_t count_blocks(uint64_t files, size_t mem_len)
+static uint32_t survey(uint64_t files, size_t mem_len)
 {
     memset(counts, UNTOUCHED, sizeof counts);
-    return store_count_blocks(files, SLOTS, BLOCKS, BLOCK_SIZE, store.sizes, FILES, store.words, FILES * SLOTS, store.mem, mem_len,
+    return store_survey(files, SLOTS, BLOCKS, BLOCK_SIZE, store.sizes, FILES, store.words, FILES * SLOTS, store.mem, mem_len,
         counts);
 }
 
@@ -124,14 +119,12 @@ static void served(void)
     memset(&store, UNTOUCHED, sizeof store);
     expect(make_empty(FILES, sizeof store.mem) == 0, "make_empty");
     expect(memcmp(&store, &zero, sizeof store) == 0, "make_empty's tables");
-    expect(soundness(FILES, sizeof store.mem) == 0, "soundness");
-    expect(count_blocks(FILES, sizeof store.mem) == 0 && counts_are(0, 0), "counts of an empty store");
+    expect(survey(FILES, sizeof store.mem) == 0 && counts_are(0, 0), "survey of an empty store");
     frame("000000000000000200000002000000160000000400000001"
           "0000003b0000000000000000000000000000000000000000000000000000000000000200",
         "00000000000000000000000200000016000000000000003b00000000", "frame 1");
     expect(store.sizes[1] == BLOCK_SIZE && store.words[SLOTS] == 1, "frame 1's tables");
-    expect(soundness(FILES, sizeof store.mem) == 0, "soundness after frame 1");
-    expect(count_blocks(FILES, sizeof store.mem) == 0 && counts_are(0, 1), "counts after frame 1");
+    expect(survey(FILES, sizeof store.mem) == 0 && counts_are(0, 1), "survey after frame 1");
     frame("000000000000000200000002000000160000000400000001"
           "0000004400000000000000000000000000000000000000000000000000000010",
         "00000000000000000000000200000016000000000000004400000000000000000000000100000001"
@@ -207,9 +200,9 @@ static void refused(void)
     struct lent good = whole(64), a = good, b = good, c = good, d = good;
     expect(make_empty(0, length) == 1 && make_empty(FILES, length - 1) == 2, "make_empty refused");
     expect(memcmp(&store, &before, sizeof store) == 0, "make_empty refused: tables");
-    expect(soundness(65, length) == 1 && soundness(FILES, length - 1) == 2, "soundness refused");
-    expect(count_blocks(UINT64_MAX, length) == 1 && counts_are(0, 0), "counts refused: 1");
-    expect(count_blocks(FILES, 0) == 2 && counts_are(0, 0), "counts refused: 2");
+    expect(survey(65, length) == 1 && survey(FILES, length - 1) == 2, "survey refused");
+    expect(survey(UINT64_MAX, length) == 1 && counts_are(0, 0), "survey refused: 1");
+    expect(survey(FILES, 0) == 2 && counts_are(0, 0), "survey refused: 2");
     a.files = FILES + 64;
     refuses(1, a, SERVER_NOWHERE, "refusal 1");
     b.mem_len--;
@@ -221,8 +214,7 @@ static void refused(void)
     refuses(5, d, SERVER_NOWHERE, "refusal 5");
     refuses(6, whole(11), 11, "refusal 6");
     store.words[0] = 2 * (BLOCKS + 1);
-    expect(soundness(FILES, length) == 3, "soundness refused: 3");
-    expect(count_blocks(FILES, length) == 3 && counts_are(0, 0), "counts refused: 3");
+    expect(survey(FILES, length) == 3 && counts_are(0, 0), "survey refused: 3");
     hides(3, slot_view(FILES, length, BLOCK_SIZE, 3, 2), "view refused: 3, store");
     refuses(3, good, SERVER_NOWHERE, "refusal 3");
 }

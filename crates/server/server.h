@@ -1,4 +1,4 @@
-/* The server core as five calls with C's calling convention, for x86-64 Linux. Link target/staticlib/libserver.a, which
+/* The server core as four calls with C's calling convention, for x86-64 Linux. Link target/staticlib/libserver.a, which
    `rt staticlib server` writes. Of the C library it takes memcpy, memmove and memset; it allocates nothing and keeps no state.
 
    The store is lent with every call:
@@ -46,12 +46,8 @@ extern "C" {
 uint32_t store_make_empty(uint64_t files, uint64_t slots, uint64_t blocks, uint64_t block_size,
     uint64_t *sizes, size_t sizes_len, uint32_t *words, size_t words_len, uint8_t *mem, size_t mem_len);
 
-/* Whether the store is sound. Answers 0 to 3. */
-uint32_t store_soundness(uint64_t files, uint64_t slots, uint64_t blocks, uint64_t block_size,
-    const uint64_t *sizes, size_t sizes_len, const uint32_t *words, size_t words_len, const uint8_t *mem, size_t mem_len);
-
-/* Sets counts to the used and the owed blocks. Answers 0 to 3. */
-uint32_t store_count_blocks(uint64_t files, uint64_t slots, uint64_t blocks, uint64_t block_size,
+/* Whether the store is sound. Sets counts to the used and the owed blocks, zero on a refusal. Answers 0 to 3. */
+uint32_t store_survey(uint64_t files, uint64_t slots, uint64_t blocks, uint64_t block_size,
     const uint64_t *sizes, size_t sizes_len, const uint32_t *words, size_t words_len, const uint8_t *mem, size_t mem_len,
     uint64_t counts[2]);
 

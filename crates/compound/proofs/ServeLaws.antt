@@ -18,7 +18,7 @@ use Rattle.rules.specs.Operation.{MINOR-VERS-MISMATCH, TOO-MANY-OPS, BADXDR, it
 use Rattle.rules.specs.Fault.{NOWHERE}
 use Rattle.rules.specs.Run.{reached, config}
 use Rattle.rules.specs.Calls.{storeRefusal, resultBytes, replyHead, replyBytes, lastStatus, fresh, headerStatus, compound, Outcome, Gives, withPlace, refuse, served, refusal, Call, answerNoPlace, lastFault, placeOf, answer, Contract}
-use Rattle.tables.specs.Survey.{TableReady, Surveyed}
+use Rattle.tables.specs.Survey.{TableReady, TableSurveyed}
 use Rattle.rules.proofs.GeometryLaws.{good, block-pos}
 use Rattle.rules.proofs.SoundLaws.{sound-facts}
 use Rattle.rules.proofs.FirstLaws.{all-clear}
@@ -161,7 +161,7 @@ module _ (g : Geometry) (v s buf : List ℕ) (st : Store) where
 
 -- ---- the survey
 
-module _ {g : Geometry} {st : Store} {counts₀ counts : List ℕ} {number usedIs owedIs : ℕ} (t : TableReady g st counts₀) (r : Surveyed g st counts₀ number usedIs owedIs counts) where
+module _ {g : Geometry} {st : Store} {counts₀ counts : List ℕ} {number usedIs owedIs : ℕ} (t : TableReady g st counts₀) (r : TableSurveyed g st counts₀ number usedIs owedIs counts) where
   pub survey-unsound : number ≢ 0 → sound g st ≡ false
   unfolding storeRefusal
   survey-unsound n = go (sound g st) refl

@@ -21,8 +21,8 @@ use crate::answer::Answer;
 use crate::run::Config;
 use crate::run::Progress;
 use crate::run::run;
-use tables::Counts;
 use tables::Geometry;
+use tables::Surveyed;
 use wire::Header;
 use wire::HeaderRead;
 use wire::Item;
@@ -157,7 +157,7 @@ fn serve_counted(
         (outcome r reply (after sizes words mem)) ⌝ }
 {
     if tables::survey_tables(c.geometry, sizes, words, mem, counts).number != 0 {
-        return Served::refused(Counts::UNSOUND);
+        return Served::refused(Surveyed::UNSOUND);
     }
     if Served::MAX_REQUEST < s.len() {
         return Served::refused(Served::LONG_REQUEST);
@@ -285,13 +285,13 @@ pub fn serve(
         (outcome r reply (after sizes words mem)) ⌝ }
 {
     if !g.good() {
-        return Served::refused(Counts::GEOMETRY);
+        return Served::refused(Surveyed::GEOMETRY);
     }
     if !tables::good_lengths(g, sizes, words, mem) {
-        return Served::refused(Counts::LENGTH);
+        return Served::refused(Surveyed::LENGTH);
     }
     if v.len() != Served::VERIFIER {
-        return Served::refused(Counts::LENGTH);
+        return Served::refused(Surveyed::LENGTH);
     }
     let c = Config {
         geometry: g,

@@ -46,7 +46,7 @@ fn say_front(text: &[u8], n: usize) {
 }
 
 fn say_counts(g: Geometry, sizes: &[u64], words: &[u32], mem: &[u8]) {
-    let c = tables::count_blocks(g, sizes, words, mem);
+    let c = tables::survey(g, sizes, words, mem);
     say(b" ");
     say_number(c.used as u64);
     say(b" ");

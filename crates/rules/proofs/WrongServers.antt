@@ -8,7 +8,7 @@ use Rattle.xdr.specs.Encode.{u32}
 use Rattle.rules.specs.Store.{Store}
 use Rattle.rules.specs.Operation.{READ, WRITE, DEALLOCATE, CLONE, SAVEFH, opBytes, headerLayout}
 use Rattle.rules.specs.Run.{zeroId, config}
-use Rattle.rules.specs.Calls.{CountPromise, Call, Outcome, answer, Contract}
+use Rattle.rules.specs.Calls.{SurveyPromise, Call, Outcome, answer, Contract}
 use Rattle.rules.proofs.Script.{geometry, empty, call, on, allocate, write, replied, result, put, wrote, rules}
 
 -- after P1: file 0 has reserved both blocks of the pool
@@ -47,7 +47,7 @@ unfolding rules
 ok-without-bytes o h = ap (take 64) (h .reply) ∙ refl
 
 -- one with made-up counts: after P1 the count call answers 0, none used and two owed
-pub made-up-counts : (number usedIs owedIs : ℕ) → CountPromise (geometry 2) reserved number usedIs owedIs → (number ≡ 0) × (usedIs ≡ 0) × (owedIs ≡ 2)
+pub made-up-counts : (number usedIs owedIs : ℕ) → SurveyPromise (geometry 2) reserved number usedIs owedIs → (number ≡ 0) × (usedIs ≡ 0) × (owedIs ≡ 2)
 unfolding rules
 made-up-counts number usedIs owedIs h = (h .number-is ∙ refl, h .used-is ∙ refl, h .owed-is ∙ refl)
 

@@ -183,7 +183,7 @@ usedCount g st = cond (eqb (storeRefusal g st) 0) (used (st .words)) 0
 unfoldable pub owedCount : Geometry → Store → ℕ
 owedCount g st = cond (eqb (storeRefusal g st) 0) (owed (st .words)) 0
 
-pub record CountPromise (g : Geometry) (st : Store) (number usedIs owedIs : ℕ) : Type 0 where
+pub record SurveyPromise (g : Geometry) (st : Store) (number usedIs owedIs : ℕ) : Type 0 where
   pub number-is : number ≡ storeRefusal g st
   pub used-is : usedIs ≡ usedCount g st
   pub owed-is : owedIs ≡ owedCount g st

@@ -6,9 +6,9 @@ use mathlib.Core.List.{List, [], _∷_}
 use lib.ListN.{length, getD}
 use Rattle.rules.specs.Lists.{bit}
 use Rattle.rules.specs.Store.{Geometry, Store}
-use Rattle.rules.specs.Calls.{MakePromise, storeRefusal, CountPromise, slotView, slotStart, KindPromise, Outcome, Call, Contract}
+use Rattle.rules.specs.Calls.{MakePromise, SurveyPromise, slotView, slotStart, KindPromise, Outcome, Call, Contract}
 use Rattle.rules.specs.Run.{config}
-use Rattle.server.specs.Exports.{CountsPromise, ShownPromise, ServePromise}
+use Rattle.server.specs.Exports.{SurveyedPromise, ShownPromise, ServePromise}
 
 two : (a b x y : ℕ) → a ≡ x → b ≡ y → a ∷ b ∷ [] ≡ x ∷ y ∷ []
 two a b x y e f = rw (e, f)
@@ -19,12 +19,9 @@ three a b c x y z e f g = rw (e, f, g)
 pub made : (g h : Geometry) (st after : Store) (n : ℕ) → g ≡ h → MakePromise g st n after → MakePromise h st n after
 made g h st after n e p = subst (λ (k : Geometry). MakePromise k st n after) e p
 
-pub judged : (g h : Geometry) (st : Store) (n : ℕ) → g ≡ h → n ≡ storeRefusal g st → n ≡ storeRefusal h st
-judged g h st n e p = p ∙ ap (λ (k : Geometry). storeRefusal k st) e
-
-pub counted : (g h : Geometry) (st : Store) (n u o : ℕ) → g ≡ h → CountPromise g st n u o → CountsPromise h st n (u ∷ o ∷ [])
-counted g h st n u o e p =
-    let q = subst (λ (k : Geometry). CountPromise k st n u o) e p in
+pub surveyed : (g h : Geometry) (st : Store) (n u o : ℕ) → g ≡ h → SurveyPromise g st n u o → SurveyedPromise h st n (u ∷ o ∷ [])
+surveyed g h st n u o e p =
+    let q = subst (λ (k : Geometry). SurveyPromise k st n u o) e p in
     record { number-is = q .number-is; counts-are = two _ _ _ _ (q .used-is) (q .owed-is) }
 
 -- from the kind, the start and the view of one slot

@@ -8,7 +8,7 @@ use Rattle.rules.specs.Store.{Geometry, Store}
 use Rattle.rules.specs.Calls.{storeRefusal, usedCount, owedCount, slotRefusal, slotView, slotIsHole, slotStart, Call, answer}
 
 -- used and owed blocks (document 01, "The store"): zero on a refusal
-pub record CountsPromise (g : Geometry) (st : Store) (number : ℕ) (counts : List ℕ) : Type 0 where
+pub record SurveyedPromise (g : Geometry) (st : Store) (number : ℕ) (counts : List ℕ) : Type 0 where
   pub number-is : number ≡ storeRefusal g st
   pub counts-are : counts ≡ usedCount g st ∷ owedCount g st ∷ []
 

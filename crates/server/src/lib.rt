@@ -3,9 +3,9 @@ ghost use mathlib.Core.Path.{_≡_};
 ghost use Rattle.tables.specs.Lent.{geometryOf, after, before};
 ghost use Rattle.rules.specs.Run.{config};
 ghost use Rattle.rules.specs.Lists.{bit};
-ghost use Rattle.rules.specs.Calls.{MakePromise, storeRefusal};
+ghost use Rattle.rules.specs.Calls.{MakePromise};
 ghost use Rattle.compound.specs.Runner.{call};
-ghost use Rattle.server.specs.Exports.{CountsPromise, ShownPromise, ServePromise};
+ghost use Rattle.server.specs.Exports.{SurveyedPromise, ShownPromise, ServePromise};
 use tables::Geometry;
 
 fn geometry(files: u64, slots: u64, blocks: u64, block_size: u64) -> Geometry
@@ -42,31 +42,9 @@ pub extern "C" fn store_make_empty(
     )
 }
 
-// Whether the store is sound: 0, or refusal 1, 2 or 3.
+// Whether the store is sound, with its used and owed blocks: 0, or refusal 1, 2 or 3 and zero counts.
 #[no_mangle]
-pub extern "C" fn store_soundness(
-    files: u64,
-    slots: u64,
-    blocks: u64,
-    block_size: u64,
-    sizes: &[u64],
-    words: &[u32],
-    mem: &[u8],
-) -> u32
-    ensures { λ r. ⌜ r ≡ storeRefusal (record { F = files; S = slots; N = blocks; B = «block_size» })
-        (before sizes words mem) ⌝ }
-{
-    tables::soundness(
-        geometry(files, slots, blocks, block_size),
-        sizes,
-        words,
-        mem,
-    )
-}
-
-// Used and owed blocks: 0, or refusal 1, 2 or 3 and zero counts.
-#[no_mangle]
-pub extern "C" fn store_count_blocks(
+pub extern "C" fn store_survey(
     files: u64,
     slots: u64,
     blocks: u64,
@@ -76,10 +54,10 @@ pub extern "C" fn store_count_blocks(
     mem: &[u8],
     counts: &mut [u64; 2],
 ) -> u32
-    ensures { λ r. ⌜ CountsPromise (record { F = files; S = slots; N = blocks; B = «block_size» })
+    ensures { λ r. ⌜ SurveyedPromise (record { F = files; S = slots; N = blocks; B = «block_size» })
         (before sizes words mem) r (now (counts .exit)) ⌝ }
 {
-    let c = tables::count_blocks(
+    let c = tables::survey(
         geometry(files, slots, blocks, block_size),
         sizes,
         words,

@@ -1,5 +1,5 @@
-// Runs whole and damaged tables through the store's own calls. Each line has a name, the number of `soundness`, the
-// numbers of `count_blocks` (refusal, used, owed), and of slot 0 of file 0 the refusal, 'hole' or 'data', the length
+// Runs whole and damaged tables through the store's own calls. Each line has a name, the
+// numbers of `survey` (refusal, used, owed), and of slot 0 of file 0 the refusal, 'hole' or 'data', the length
 // shown, and if there are any the first four bytes and the last. A line whose first word is 'slot' has a name and
 // this of another slot. The tables are of F 2, S 4, N 4, B 512 unless the name says otherwise.
 use libc::STDOUT_FILENO;
@@ -20,8 +20,7 @@ fn say_kind(hole: bool) {
 
 fn tell<'a>(name: &[u8], g: Geometry, sizes: &[u64], words: &[u32], mem: &'a [u8], page: &'a [u8]) {
     say(name);
-    say_number(tables::soundness(g, sizes, words, mem) as u64);
-    let c = tables::count_blocks(g, sizes, words, mem);
+    let c = tables::survey(g, sizes, words, mem);
     say_number(c.number as u64);
     say_number(c.used as u64);
     say_number(c.owed as u64);

@@ -8,7 +8,7 @@ use lib.Dec.{leb, eqb}
 use borrow.Author.Tests.{ne-eqb}
 use Rattle.rules.specs.Lists.{allTo}
 use Rattle.rules.specs.Store.{Geometry, goodGeometry, Store, goodLengths, emptyStore, sound, soundFile, used, owed}
-use Rattle.rules.specs.Calls.{makeRefusal, madeStore, MakePromise, storeRefusal, usedCount, owedCount, CountPromise}
+use Rattle.rules.specs.Calls.{makeRefusal, madeStore, MakePromise, storeRefusal, usedCount, owedCount, SurveyPromise}
 use Rattle.tables.specs.Tables.{Shaped}
 use Rattle.rules.proofs.GeometryLaws.{lengths}
 
@@ -43,30 +43,30 @@ module _ (g : Geometry) (st : Store) where
         mem-is = rw (h, k) (c ∙ ap (λ (n : ℕ). replicate n 0) (l .bytes));
       }
 
--- ---- soundness and counts
+-- ---- survey a store
 
 module _ (g : Geometry) (st : Store) where
-  count-refused : (k : ℕ) → storeRefusal g st ≡ suc k → CountPromise g st (suc k) 0 0
+  survey-refused : (k : ℕ) → storeRefusal g st ≡ suc k → SurveyPromise g st (suc k) 0 0
   unfolding usedCount owedCount
-  count-refused k e =
+  survey-refused k e =
       let z : eqb (suc k) 0 ≡ false = ne-eqb (suc k) 0 (λ (y : suc k ≡ 0). omega arith) in
       record { number-is = sym e; used-is = rw (e, z); owed-is = rw (e, z) }
 
-  pub count-refused-1 : goodGeometry g ≡ false → CountPromise g st 1 0 0
+  pub survey-refused-1 : goodGeometry g ≡ false → SurveyPromise g st 1 0 0
   unfolding storeRefusal
-  count-refused-1 h = count-refused 0 (rw h)
+  survey-refused-1 h = survey-refused 0 (rw h)
 
-  pub count-refused-2 : goodGeometry g ≡ true → goodLengths g st ≡ false → CountPromise g st 2 0 0
+  pub survey-refused-2 : goodGeometry g ≡ true → goodLengths g st ≡ false → SurveyPromise g st 2 0 0
   unfolding storeRefusal
-  count-refused-2 h k = count-refused 1 (rw (h, k))
+  survey-refused-2 h k = survey-refused 1 (rw (h, k))
 
-  pub count-unsound : Shaped g st → sound g st ≡ false → CountPromise g st 3 0 0
+  pub survey-unsound : Shaped g st → sound g st ≡ false → SurveyPromise g st 3 0 0
   unfolding storeRefusal
-  count-unsound h k = count-refused 2 (rw (h .geometry, h .lengths, k))
+  survey-unsound h k = survey-refused 2 (rw (h .geometry, h .lengths, k))
 
-  pub count-sound : Shaped g st → sound g st ≡ true → CountPromise g st 0 (used (st .words)) (owed (st .words))
+  pub survey-sound : Shaped g st → sound g st ≡ true → SurveyPromise g st 0 (used (st .words)) (owed (st .words))
   unfolding usedCount owedCount storeRefusal
-  count-sound h k =
+  survey-sound h k =
       record { number-is = rw (h .geometry, h .lengths, k); used-is = rw (h .geometry, h .lengths, k); owed-is = rw (h .geometry, h .lengths, k) }
 
   -- the parts of `sound`

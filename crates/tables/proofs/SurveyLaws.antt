@@ -14,17 +14,17 @@ use Rattle.rules.specs.Lists.{allTo, count, tabulate}
 use Rattle.rules.specs.Store.{Geometry, Store, holders, used, owed, fitsPool, soundFile, sound}
 use Rattle.tables.specs.Tables.{Shaped, Pooled, Tallied, TableTrue}
 use Rattle.tables.specs.Tally.{Untallied, owesBy}
-use Rattle.tables.specs.Survey.{TableReady, TableFits, tableAfter, Surveyed}
+use Rattle.tables.specs.Survey.{TableReady, TableFits, tableAfter, TableSurveyed}
 use Rattle.rules.proofs.GeometryLaws.{good, block-pos, slots-all, lengths}
 use Rattle.rules.proofs.SoundLaws.{allTo-at, sound-facts}
 use Rattle.rules.proofs.SlotByteLaws.{length-tab, getD-tab}
 use Rattle.tables.proofs.TallyLaws.{count-most, tallied-used, tallied-owed}
-use Rattle.tables.proofs.CallLaws.{count-unsound, count-sound, sound-words, sound-files, sound-room}
+use Rattle.tables.proofs.CallLaws.{survey-unsound, survey-sound, sound-words, sound-files, sound-room}
 use Rattle.rules.proofs.PlanLaws.{InPool}
 
 -- a store that is not sound
-unsound : (g : Geometry) (st : Store) {counts after : List ℕ} → Shaped g st → sound g st ≡ false → after ≡ tableAfter g st counts → Surveyed g st counts 3 0 0 after
-unsound g st h e t = record { promise = count-unsound g st h e; table = t }
+unsound : (g : Geometry) (st : Store) {counts after : List ℕ} → Shaped g st → sound g st ≡ false → after ≡ tableAfter g st counts → TableSurveyed g st counts 3 0 0 after
+unsound g st h e t = record { promise = survey-unsound g st h e; table = t }
 
 -- a true table is the list of the blocks' holders
 tallied-is : (ws after : List ℕ) (n : ℕ) → Tallied ws after → length after ≡ n → after ≡ tabulate (λ b. holders b ws) 0 n
@@ -45,7 +45,7 @@ module _ (g : Geometry) (st : Store) (counts : List ℕ) (r : TableReady g st co
     formed : a ≡ allTo (g .F * g .S) (λ i. leb (getD (st .words) i 0 / 2) (g .N))
     formed = wordsAre ∙ ap (λ (n : ℕ). allTo n (λ i. leb (getD (st .words) i 0 / 2) (g .N))) (lengths g st (r .shaped .lengths) .slots)
 
-    pub survey-words : not a ≡ true → Surveyed g st counts 3 0 0 counts
+    pub survey-words : not a ≡ true → TableSurveyed g st counts 3 0 0 counts
     unfolding tableAfter
     survey-words h = unsound g st (r .shaped) (sound-words g st (sym formed ∙ not-true a h)) (rw (sym formed ∙ not-true a h))
 
@@ -71,7 +71,7 @@ module _ (g : Geometry) (st : Store) (counts : List ℕ) (r : TableReady g st co
       }
 
       module _ (b : Bool) (filesAre : b ≡ allTo (g .F) (soundFile g st)) where
-        pub survey-files : not b ≡ true → Surveyed g st counts 3 0 0 counts
+        pub survey-files : not b ≡ true → TableSurveyed g st counts 3 0 0 counts
         unfolding tableAfter
         survey-files h =
             unsound g st (r .shaped) (sound-files g st (sym formed ∙ not-false a ok) (sym filesAre ∙ not-true b h))
@@ -101,7 +101,7 @@ module _ (g : Geometry) (st : Store) (counts : List ℕ) (r : TableReady g st co
           unfolding tableAfter
           after-is = rw (sym formed ∙ not-false a ok, sym filesAre ∙ not-false b fine) (tallied-is (st .words) after (g .N) table (kept ∙ long))
 
-          pub survey-room : (u o : ℕ) → u ≡ count (ltb 0) after → o ≡ count (owesBy after) (st .words) → g .N < u + o → Surveyed g st counts 3 0 0 after
+          pub survey-room : (u o : ℕ) → u ≡ count (ltb 0) after → o ≡ count (owesBy after) (st .words) → g .N < u + o → TableSurveyed g st counts 3 0 0 after
           survey-room u o p q l =
               unsound g st (r .shaped)
               (sound-room g st (sym formed ∙ not-false a ok) (sym filesAre ∙ not-false b fine) false
@@ -109,13 +109,13 @@ module _ (g : Geometry) (st : Store) (counts : List ℕ) (r : TableReady g st co
               (omega (arith, p, q, tallied-used (st .words) after table in-table, tallied-owed (st .words) after table in-table))))
               after-is
 
-          pub surveyed : (u o : ℕ) → u ≡ count (ltb 0) after → o ≡ count (owesBy after) (st .words) → u + o ≤ g .N → Surveyed g st counts 0 u o after
+          pub surveyed : (u o : ℕ) → u ≡ count (ltb 0) after → o ≡ count (owesBy after) (st .words) → u + o ≤ g .N → TableSurveyed g st counts 0 u o after
           surveyed u o p q l =
               let eu : u ≡ used (st .words) = p ∙ tallied-used (st .words) after table in-table in
               let eo : o ≡ owed (st .words) = q ∙ tallied-owed (st .words) after table in-table in
               rw (eu, eo)
               (record {
-                promise = count-sound g st (r .shaped)
+                promise = survey-sound g st (r .shaped)
                     (sound-room g st (sym formed ∙ not-false a ok) (sym filesAre ∙ not-false b fine) true (le-leb (used (st .words) + owed (st .words)) (g .N) (omega (arith, eu, eo))));
                 table = after-is;
               })
@@ -136,7 +136,7 @@ pub most-blocks : {g : Geometry} {st : Store} → Shaped g st → g .N ≤ 65536
 most-blocks {g} h = good g (h .geometry) .blocks-most
 
 -- the table of a sound store is true
-pub surveyed-table : (g : Geometry) (st : Store) {counts after : List ℕ} {number u o : ℕ} → sound g st ≡ true → Surveyed g st counts number u o after → Tallied (st .words) after
+pub surveyed-table : (g : Geometry) (st : Store) {counts after : List ℕ} {number u o : ℕ} → sound g st ≡ true → TableSurveyed g st counts number u o after → Tallied (st .words) after
 unfolding tableAfter sound
 surveyed-table g st {counts} {after} s r = record { each = λ b h. at b (rw is at h) }
   where

@@ -7,7 +7,7 @@ use lib.ListN.{length, getD, replicate}
 use lib.Dec.{leb}
 use Rattle.rules.specs.Lists.{allTo, tabulate}
 use Rattle.rules.specs.Store.{Geometry, Store, holders, soundFile}
-use Rattle.rules.specs.Calls.{CountPromise}
+use Rattle.rules.specs.Calls.{SurveyPromise}
 use Rattle.tables.specs.Tables.{Shaped}
 
 -- a zero for each block
@@ -27,6 +27,6 @@ tableAfter g st counts =
     cond (allTo (g .F * g .S) (λ i. leb (getD (st .words) i 0 / 2) (g .N)) && allTo (g .F) (soundFile g st)) (tabulate (λ b. holders b (st .words)) 0 (g .N)) counts
 
 -- the answer, and the table afterwards
-pub record Surveyed (g : Geometry) (st : Store) (counts : List ℕ) (number usedIs owedIs : ℕ) (after : List ℕ) : Type 0 where
-  pub promise : CountPromise g st number usedIs owedIs
+pub record TableSurveyed (g : Geometry) (st : Store) (counts : List ℕ) (number usedIs owedIs : ℕ) (after : List ℕ) : Type 0 where
+  pub promise : SurveyPromise g st number usedIs owedIs
   pub table : after ≡ tableAfter g st counts

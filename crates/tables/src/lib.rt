@@ -1,11 +1,11 @@
-// The store's tables: geometry, slot words and the table of holders; soundness, counts, a file's room, an empty store, and one slot
+// The store's tables: geometry, slot words and the table of holders; the survey, a file's room, an empty store, and one slot
 // shown.
 mod files;
 mod geometry;
 mod groups;
 mod make;
+mod sound;
 mod space;
-mod survey;
 mod tally;
 mod view;
 mod words;
@@ -13,12 +13,11 @@ mod words;
 pub use geometry::Geometry;
 pub use geometry::good_lengths;
 pub use make::make_empty;
+pub use sound::Surveyed;
+pub use sound::survey;
+pub use sound::survey_tables;
 pub use space::Space;
 pub use space::file_space;
-pub use survey::Counts;
-pub use survey::count_blocks;
-pub use survey::soundness;
-pub use survey::survey_tables;
 pub use tally::lowest_free;
 pub use tally::owed_slots;
 pub use tally::takes_block;

@@ -5,7 +5,7 @@ ghost use Rattle.tables.specs.Lent.{geometryOf, after, before};
 ghost use Rattle.rules.specs.Calls.{MakePromise};
 use crate::geometry::Geometry;
 use crate::geometry::good_lengths;
-use crate::survey::Counts;
+use crate::sound::Surveyed;
 
 fn zero_sizes(dst: &mut [u64])
     ensures { λ _. ⌜ now (dst .exit) ≡ replicate (length (now (dst .entry))) 0 ⌝ }
@@ -34,10 +34,10 @@ pub fn make_empty(g: Geometry, sizes: &mut [u64], words: &mut [u32], mem: &mut [
         (after sizes words mem) ⌝ }
 {
     if !g.good() {
-        return Counts::GEOMETRY;
+        return Surveyed::GEOMETRY;
     }
     if !good_lengths(g, sizes, words, mem) {
-        return Counts::LENGTH;
+        return Surveyed::LENGTH;
     }
     zero_sizes(sizes);
     zero_slots(words);

@@ -6,8 +6,8 @@ ghost use Rattle.tables.specs.View.{PlacePromise, ViewPromise};
 use crate::files::zero_bytes;
 use crate::geometry::Geometry;
 use crate::geometry::good_lengths;
-use crate::survey::Counts;
-use crate::survey::soundness;
+use crate::sound::Surveyed;
+use crate::sound::survey;
 
 // The refusal, and whether the slot is a hole.
 pub struct Kind {
@@ -38,21 +38,21 @@ fn slot_refusal(
 ) -> u32
     ensures { λ r. ⌜ r ≡ slotRefusal (geometryOf g) (before sizes words mem) (now (page .entry)) f k ⌝ }
 {
-    let number = soundness(g, sizes, words, mem);
-    if number == Counts::GEOMETRY {
-        return Counts::GEOMETRY;
+    let number = survey(g, sizes, words, mem).number;
+    if number == Surveyed::GEOMETRY {
+        return Surveyed::GEOMETRY;
     }
-    if number == Counts::LENGTH {
-        return Counts::LENGTH;
+    if number == Surveyed::LENGTH {
+        return Surveyed::LENGTH;
     }
     if page.len() != g.block_size {
-        return Counts::LENGTH;
+        return Surveyed::LENGTH;
     }
     if number != 0 {
-        return Counts::UNSOUND;
+        return Surveyed::UNSOUND;
     }
     if !zero_bytes(page) {
-        return Counts::UNSOUND;
+        return Surveyed::UNSOUND;
     }
     if g.files <= f {
         return Place::NO_SLOT;

@@ -12,15 +12,15 @@ past-two : (c : tie.After-struct-known)
     → let a = c .before .before .before .before .before .before .before .before .args in Shaped (geometryOf (a .g)) (record { sizes = a .sizes .now; words = a .words .now; mem = a .mem .now })
 past-two c =
     let k = c .before .before .before in
-    number-shaped _ _ (λ q. c .before .before .if1 .left (k .soundness .ensures ∙ q)) (λ q. c .before .if2 .left (k .soundness .ensures ∙ q))
+    number-shaped _ _ (λ q. c .before .before .if1 .left (k .survey .ensures .number-is ∙ q)) (λ q. c .before .if2 .left (k .survey .ensures .number-is ∙ q))
 
 returns : tie.Need-returns
-returns c = sym (slot-geometry _ _ _ _ _ (number-1 _ _ (sym (c .before .soundness .ensures) ∙ c .if1 .taken)))
+returns c = sym (slot-geometry _ _ _ _ _ (number-1 _ _ (sym (c .before .survey .ensures .number-is) ∙ c .if1 .taken)))
 
 returns-2 : tie.Need-returns-2
 returns-2 c =
     let k = c .before .before in
-    let p = number-2 _ _ (sym (k .soundness .ensures) ∙ c .if2 .taken) in
+    let p = number-2 _ _ (sym (k .survey .ensures .number-is) ∙ c .if2 .taken) in
     sym (slot-lengths _ _ _ _ _ (p .0) (p .1))
 
 returns-3 : tie.Need-returns-3
@@ -30,7 +30,7 @@ returns-4 : tie.Need-returns-4
 returns-4 c =
     let p = c .before .before in
     let k = p .before .before .before in
-    sym (slot-unsound _ _ _ _ _ (past-two p) (c .before .if3 .left) (number-unsound _ _ (past-two p) (λ q. c .if4 .taken (k .soundness .ensures ∙ q))))
+    sym (slot-unsound _ _ _ _ _ (past-two p) (c .before .if3 .left) (number-unsound _ _ (past-two p) (λ q. c .if4 .taken (k .survey .ensures .number-is ∙ q))))
 
 returns-5 : tie.Need-returns-5
 returns-5 c =
@@ -38,7 +38,7 @@ returns-5 c =
     let i = z .before in
     let p = i .before .before in
     let k = p .before .before .before in
-    sym (slot-dirty _ _ _ _ _ (past-two p) (i .before .if3 .left) (number-sound _ _ (sym (k .soundness .ensures) ∙ i .if4 .left)) (sym (z .zero-bytes .ensures) ∙ not-true _ (c .if5 .taken)))
+    sym (slot-dirty _ _ _ _ _ (past-two p) (i .before .if3 .left) (number-sound _ _ (sym (k .survey .ensures .number-is) ∙ i .if4 .left)) (sym (z .zero-bytes .ensures) ∙ not-true _ (c .if5 .taken)))
 
 returns-6 : tie.Need-returns-6
 returns-6 c =
@@ -47,7 +47,7 @@ returns-6 c =
     let i = z .before in
     let p = i .before .before in
     let k = p .before .before .before in
-    sym (slot-no-file _ _ _ _ _ (past-two p) (i .before .if3 .left) (number-sound _ _ (sym (k .soundness .ensures) ∙ i .if4 .left)) (sym (z .zero-bytes .ensures) ∙ not-false _ (y .if5 .left)) (c .if6 .taken))
+    sym (slot-no-file _ _ _ _ _ (past-two p) (i .before .if3 .left) (number-sound _ _ (sym (k .survey .ensures .number-is) ∙ i .if4 .left)) (sym (z .zero-bytes .ensures) ∙ not-false _ (y .if5 .left)) (c .if6 .taken))
 
 returns-7 : tie.Need-returns-7
 returns-7 c =
@@ -57,7 +57,7 @@ returns-7 c =
     let i = z .before in
     let p = i .before .before in
     let k = p .before .before .before in
-    sym (slot-no-slot _ _ _ _ _ (past-two p) (i .before .if3 .left) (number-sound _ _ (sym (k .soundness .ensures) ∙ i .if4 .left)) (sym (z .zero-bytes .ensures) ∙ not-false _ (y .if5 .left)) (x .if6 .left) (c .if7 .taken))
+    sym (slot-no-slot _ _ _ _ _ (past-two p) (i .before .if3 .left) (number-sound _ _ (sym (k .survey .ensures .number-is) ∙ i .if4 .left)) (sym (z .zero-bytes .ensures) ∙ not-false _ (y .if5 .left)) (x .if6 .left) (c .if7 .taken))
 
 returns-8 : tie.Need-returns-8
 returns-8 c =
@@ -67,7 +67,7 @@ returns-8 c =
     let i = z .before in
     let p = i .before .before in
     let k = p .before .before .before in
-    sym (slot-there _ _ _ _ _ (past-two p) (i .before .if3 .left) (number-sound _ _ (sym (k .soundness .ensures) ∙ i .if4 .left)) (sym (z .zero-bytes .ensures) ∙ not-false _ (y .if5 .left)) (x .if6 .left) (c .if7 .left))
+    sym (slot-there _ _ _ _ _ (past-two p) (i .before .if3 .left) (number-sound _ _ (sym (k .survey .ensures .number-is) ∙ i .if4 .left)) (sym (z .zero-bytes .ensures) ∙ not-false _ (y .if5 .left)) (x .if6 .left) (c .if7 .left))
 
 pub slot-refusal-spec : {M : Type 1} → statement M
 slot-refusal-spec =

@@ -1,10 +1,9 @@
 // Whether a store is sound, and its used and owed blocks, from one table of holders.
-ghost use mathlib.Core.Path.{_≡_};
 ghost use Prim.Native.Nat.{_≤_};
 ghost use Rattle.tables.specs.Lent.{geometryOf, before, tables};
 ghost use Rattle.tables.specs.Tables.{Shaped};
-ghost use Rattle.rules.specs.Calls.{storeRefusal, CountPromise};
-ghost use Rattle.tables.specs.Survey.{TableReady, TableFits, Surveyed};
+ghost use Rattle.rules.specs.Calls.{SurveyPromise};
+ghost use Rattle.tables.specs.Survey.{TableReady, TableFits, TableSurveyed};
 use crate::files::files_sound;
 use crate::geometry::Geometry;
 use crate::geometry::good_lengths;
@@ -14,13 +13,13 @@ use crate::tally::used_blocks;
 use crate::tally::words_formed;
 
 // A refusal with zero counts, or 0 with the counts.
-pub struct Counts {
+pub struct Surveyed {
     pub number: u32,
     pub used: usize,
     pub owed: usize,
 }
 
-impl Counts {
+impl Surveyed {
     // Refusal numbers: the geometry, a length, a store that is not sound.
     pub const GEOMETRY: u32 = 1;
 
@@ -37,21 +36,21 @@ pub fn survey_tables(
     words: &[u32],
     mem: &[u8],
     counts: &mut [u32],
-) -> Counts
+) -> Surveyed
     requires { ⌜ TableReady (geometryOf g) (tables sizes words mem) (now counts) ⌝ }
-    ensures { λ r. ⌜ Surveyed (geometryOf g) (before sizes words mem) (now (counts .entry))
+    ensures { λ r. ⌜ TableSurveyed (geometryOf g) (before sizes words mem) (now (counts .entry))
         (r .number) (r .used) (r .owed) (now (counts .exit)) ⌝ }
 {
     if !words_formed(words, g.blocks) {
-        return Counts {
-            number: Counts::UNSOUND,
+        return Surveyed {
+            number: Surveyed::UNSOUND,
             used: 0,
             owed: 0,
         };
     }
     if !files_sound(g, sizes, words, mem) {
-        return Counts {
-            number: Counts::UNSOUND,
+        return Surveyed {
+            number: Surveyed::UNSOUND,
             used: 0,
             owed: 0,
         };
@@ -60,13 +59,13 @@ pub fn survey_tables(
     let used = used_blocks(counts);
     let owed = owed_slots(words, counts);
     if g.blocks < used + owed {
-        return Counts {
-            number: Counts::UNSOUND,
+        return Surveyed {
+            number: Surveyed::UNSOUND,
             used: 0,
             owed: 0,
         };
     }
-    Counts {
+    Surveyed {
         number: 0,
         used,
         owed,
@@ -74,9 +73,9 @@ pub fn survey_tables(
 }
 
 // The same in a table of any length that has a number for each block.
-fn survey_in(g: Geometry, sizes: &[u64], words: &[u32], mem: &[u8], counts: &mut [u32]) -> Counts
+fn survey_in(g: Geometry, sizes: &[u64], words: &[u32], mem: &[u8], counts: &mut [u32]) -> Surveyed
     requires { ⌜ TableFits (geometryOf g) (tables sizes words mem) (now counts) ⌝ }
-    ensures { λ r. ⌜ CountPromise (geometryOf g) (before sizes words mem)
+    ensures { λ r. ⌜ SurveyPromise (geometryOf g) (before sizes words mem)
         (r .number) (r .used) (r .owed) ⌝ }
 {
     let n = g.blocks;
@@ -84,36 +83,36 @@ fn survey_in(g: Geometry, sizes: &[u64], words: &[u32], mem: &[u8], counts: &mut
 }
 
 // The same with a table of its own, which it only lends. A small table is cleared faster.
-fn survey_small(g: Geometry, sizes: &[u64], words: &[u32], mem: &[u8]) -> Counts
+fn survey_small(g: Geometry, sizes: &[u64], words: &[u32], mem: &[u8]) -> Surveyed
     requires { ⌜ Shaped (geometryOf g) (tables sizes words mem) × (g .blocks ≤ 256) ⌝ }
-    ensures { λ r. ⌜ CountPromise (geometryOf g) (before sizes words mem)
+    ensures { λ r. ⌜ SurveyPromise (geometryOf g) (before sizes words mem)
         (r .number) (r .used) (r .owed) ⌝ }
 {
     let mut counts = [0u32; Geometry::SMALL_POOL];
     survey_in(g, sizes, words, mem, &mut counts)
 }
 
-fn survey_middle(g: Geometry, sizes: &[u64], words: &[u32], mem: &[u8]) -> Counts
+fn survey_middle(g: Geometry, sizes: &[u64], words: &[u32], mem: &[u8]) -> Surveyed
     requires { ⌜ Shaped (geometryOf g) (tables sizes words mem) × (g .blocks ≤ 4096) ⌝ }
-    ensures { λ r. ⌜ CountPromise (geometryOf g) (before sizes words mem)
+    ensures { λ r. ⌜ SurveyPromise (geometryOf g) (before sizes words mem)
         (r .number) (r .used) (r .owed) ⌝ }
 {
     let mut counts = [0u32; Geometry::MIDDLE_POOL];
     survey_in(g, sizes, words, mem, &mut counts)
 }
 
-fn survey_large(g: Geometry, sizes: &[u64], words: &[u32], mem: &[u8]) -> Counts
+fn survey_large(g: Geometry, sizes: &[u64], words: &[u32], mem: &[u8]) -> Surveyed
     requires { ⌜ Shaped (geometryOf g) (tables sizes words mem) × (g .blocks ≤ 65536) ⌝ }
-    ensures { λ r. ⌜ CountPromise (geometryOf g) (before sizes words mem)
+    ensures { λ r. ⌜ SurveyPromise (geometryOf g) (before sizes words mem)
         (r .number) (r .used) (r .owed) ⌝ }
 {
     let mut counts = [0u32; Geometry::MAX_BLOCKS];
     survey_in(g, sizes, words, mem, &mut counts)
 }
 
-fn survey_shaped(g: Geometry, sizes: &[u64], words: &[u32], mem: &[u8]) -> Counts
+fn survey_shaped(g: Geometry, sizes: &[u64], words: &[u32], mem: &[u8]) -> Surveyed
     requires { ⌜ Shaped (geometryOf g) (tables sizes words mem) ⌝ }
-    ensures { λ r. ⌜ CountPromise (geometryOf g) (before sizes words mem)
+    ensures { λ r. ⌜ SurveyPromise (geometryOf g) (before sizes words mem)
         (r .number) (r .used) (r .owed) ⌝ }
 {
     if g.blocks <= Geometry::SMALL_POOL {
@@ -125,31 +124,24 @@ fn survey_shaped(g: Geometry, sizes: &[u64], words: &[u32], mem: &[u8]) -> Count
     survey_large(g, sizes, words, mem)
 }
 
-// How many blocks are used, and how many are owed.
-pub fn count_blocks(g: Geometry, sizes: &[u64], words: &[u32], mem: &[u8]) -> Counts
-    ensures { λ r. ⌜ CountPromise (geometryOf g) (before sizes words mem)
+// The refusal number, or 0 with the used and owed blocks.
+pub fn survey(g: Geometry, sizes: &[u64], words: &[u32], mem: &[u8]) -> Surveyed
+    ensures { λ r. ⌜ SurveyPromise (geometryOf g) (before sizes words mem)
         (r .number) (r .used) (r .owed) ⌝ }
 {
     if !g.good() {
-        return Counts {
-            number: Counts::GEOMETRY,
+        return Surveyed {
+            number: Surveyed::GEOMETRY,
             used: 0,
             owed: 0,
         };
     }
     if !good_lengths(g, sizes, words, mem) {
-        return Counts {
-            number: Counts::LENGTH,
+        return Surveyed {
+            number: Surveyed::LENGTH,
             used: 0,
             owed: 0,
         };
     }
     survey_shaped(g, sizes, words, mem)
-}
-
-// Whether a store is sound: 0, or the refusal.
-pub fn soundness(g: Geometry, sizes: &[u64], words: &[u32], mem: &[u8]) -> u32
-    ensures { λ r. ⌜ r ≡ storeRefusal (geometryOf g) (before sizes words mem) ⌝ }
-{
-    count_blocks(g, sizes, words, mem).number
 }

@@ -1,12 +1,12 @@
 use mathlib.Core.Path.{sym, _∙_}
 use borrow.Author.Tests.{not-true, not-false}
-use Rattle.tables.proofs.CallLaws.{count-refused-1, count-refused-2}
+use Rattle.tables.proofs.CallLaws.{survey-refused-1, survey-refused-2}
 use borrow.Author.Needs.{needs}
-use Rattle.tables.proofs.survey.count_blocks.Statement.{statement}
-use Rattle.tables.proofs.survey.count_blocks.Tie as tie
+use Rattle.tables.proofs.sound.survey.Statement.{statement}
+use Rattle.tables.proofs.sound.survey.Tie as tie
 
 returns : tie.Need-returns
-returns c = count-refused-1 _ _ (sym (c .before .good2 .ensures) ∙ not-true _ (c .if1 .taken))
+returns c = survey-refused-1 _ _ (sym (c .before .good2 .ensures) ∙ not-true _ (c .if1 .taken))
 
 good-lengths-requires : tie.Need-good-lengths-requires
 good-lengths-requires c κs = sym (c .before .good2 .ensures) ∙ not-false _ (c .if1 .left)
@@ -15,7 +15,7 @@ returns-2 : tie.Need-returns-2
 returns-2 c =
     let l = c .before in
     let t = l .before in
-    count-refused-2 _ _ (sym (t .before .good2 .ensures) ∙ not-false _ (t .if1 .left)) (sym (l .good-lengths .ensures) ∙ not-true _ (c .if2 .taken))
+    survey-refused-2 _ _ (sym (t .before .good2 .ensures) ∙ not-false _ (t .if1 .left)) (sym (l .good-lengths .ensures) ∙ not-true _ (c .if2 .taken))
 
 survey-shaped-requires : tie.Need-survey-shaped-requires
 survey-shaped-requires c κs =
@@ -26,8 +26,8 @@ survey-shaped-requires c κs =
       lengths = sym (l .good-lengths .ensures) ∙ not-false _ (c .if2 .left);
     }
 
-pub count-blocks-spec : {M : Type 1} → statement M
-count-blocks-spec =
+pub survey-spec : {M : Type 1} → statement M
+survey-spec =
     tie.close
     (tie.spec
     (λ c κs. search needs) returns

@@ -1,8 +1,8 @@
 use native.Mathlib.Omega.{arith}
 use Rattle.tables.proofs.SurveyLaws.{survey-words, pooled, survey-files, untallied, in-table, sum-small, survey-room, surveyed}
 use borrow.Author.Needs.{needs}
-use Rattle.tables.proofs.survey.survey_tables.Statement.{statement}
-use Rattle.tables.proofs.survey.survey_tables.Tie as tie
+use Rattle.tables.proofs.sound.survey_tables.Statement.{statement}
+use Rattle.tables.proofs.sound.survey_tables.Tie as tie
 
 returns : tie.Need-returns
 returns c =

@@ -1,7 +1,7 @@
 use Rattle.tables.proofs.SurveyLaws.{most-blocks}
 use borrow.Author.Needs.{needs}
-use Rattle.tables.proofs.survey.survey_shaped.Statement.{statement}
-use Rattle.tables.proofs.survey.survey_shaped.Tie as tie
+use Rattle.tables.proofs.sound.survey_shaped.Statement.{statement}
+use Rattle.tables.proofs.sound.survey_shaped.Tie as tie
 
 survey-large-requires : tie.Need-survey-large-requires
 survey-large-requires c κs = let s = c .before .before .before .before .before .before .before in (s .pre, most-blocks (s .pre))

@@ -1,7 +1,7 @@
 use Rattle.tables.proofs.SurveyLaws.{table-zeros}
 use borrow.Author.Needs.{needs}
-use Rattle.tables.proofs.survey.survey_middle.Statement.{statement}
-use Rattle.tables.proofs.survey.survey_middle.Tie as tie
+use Rattle.tables.proofs.sound.survey_middle.Statement.{statement}
+use Rattle.tables.proofs.sound.survey_middle.Tie as tie
 
 survey-in-requires : tie.Need-survey-in-requires
 survey-in-requires c κs = let s = c .before .before .before .before in table-zeros _ _ 4096 (s .pre .0) (s .pre .1)

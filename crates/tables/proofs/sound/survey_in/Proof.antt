@@ -2,8 +2,8 @@ use mathlib.Core.Path.{sym}
 use lib.Seq.{length-take-le}
 use Rattle.tables.proofs.SurveyLaws.{table-part}
 use borrow.Author.Needs.{needs}
-use Rattle.tables.proofs.survey.survey_in.Statement.{statement}
-use Rattle.tables.proofs.survey.survey_in.Tie as tie
+use Rattle.tables.proofs.sound.survey_in.Statement.{statement}
+use Rattle.tables.proofs.sound.survey_in.Tie as tie
 
 slice-aggregate-survey-tables : tie.Need-slice-aggregate-survey-tables
 slice-aggregate-survey-tables c = sym (length-take-le _ _ (c .before .before .before .before .before .pre .long))

@@ -6,7 +6,7 @@ use mathlib.Core.List.{List, [], _∷_, _++_, append-nil}
 use mathlib.Core.Logic.{_≢_}
 use native.Mathlib.Omega.{arith}
 use native.Mathlib.Nat.{zero-add}
-use borrow.Author.Tests.{lt-ltb, le-ltb, ltb-false, eq-eqb, ne-eqb}
+use borrow.Author.Tests.{lt-ltb, le-ltb, ltb-false, eq-eqb, ne-eqb, not-true, not-false}
 use lib.ListN.{length, drop, length-replicate}
 use lib.Dec.{ltb, eqb}
 use Rattle.xdr.specs.Bytes.{splice, Written}
@@ -17,15 +17,15 @@ use Rattle.rules.specs.Store.{Geometry, goodGeometry, Store, goodLengths, sound
 use Rattle.rules.specs.Operation.{MINOR-VERS-MISMATCH, TOO-MANY-OPS, BADXDR, items, Header, header}
 use Rattle.rules.specs.Fault.{NOWHERE}
 use Rattle.rules.specs.Run.{reached, config}
-use Rattle.rules.specs.Calls.{storeRefusal, resultBytes, replyHead, replyBytes, lastStatus, fresh, headerStatus, compound, Outcome, Gives, withPlace, refuse, served, refusal, Call, answerNoPlace, lastFault, placeOf, answer, Contract}
-use Rattle.tables.specs.Survey.{TableReady, TableSurveyed}
+use Rattle.rules.specs.Calls.{resultBytes, replyHead, replyBytes, lastStatus, fresh, headerStatus, compound, Outcome, Gives, withPlace, refuse, served, refusal, Call, answerNoPlace, lastFault, placeOf, answer, Contract}
+use Rattle.tables.specs.Survey.{TableReady, TableJudged}
 use Rattle.rules.proofs.GeometryLaws.{good, block-pos}
 use Rattle.rules.proofs.SoundLaws.{sound-facts}
 use Rattle.rules.proofs.FirstLaws.{all-clear}
 use Rattle.rules.proofs.ItemLaws.{header-reads}
 use Rattle.rules.proofs.AnswerLaws.{header-own}
 use Rattle.rules.proofs.ReplyLaws.{compound-results}
-use Rattle.tables.proofs.SurveyLaws.{sound-counted, surveyed-table}
+use Rattle.tables.proofs.SurveyLaws.{judged-table}
 use Rattle.compound.specs.declared.run.Progress.{Progress}
 use Rattle.compound.specs.Runner.{Serves, started, RunsAll, RanAll, ServedRight, refusedWith}
 use Rattle.compound.specs.declared.serving.Served.{Served}
@@ -159,35 +159,24 @@ module _ (g : Geometry) (v s buf : List ℕ) (st : Store) where
               unfolding answer answerNoPlace placeOf
               serves e d = rw (accepted, e, answerNoPlace, placeOf) d
 
--- ---- the survey
+-- ---- the judgement of the store
 
-module _ {g : Geometry} {st : Store} {counts₀ counts : List ℕ} {number usedIs owedIs : ℕ} (t : TableReady g st counts₀) (r : TableSurveyed g st counts₀ number usedIs owedIs counts) where
-  pub survey-unsound : number ≢ 0 → sound g st ≡ false
-  unfolding storeRefusal
-  survey-unsound n = go (sound g st) refl
-    where
-      go : (b : Bool) → sound g st ≡ b → sound g st ≡ false
-      go true e = absurd (n (r .promise .number-is ∙ rw (t .shaped .geometry, t .shaped .lengths, e)))
-      go false e = e
+module _ {g : Geometry} {st : Store} {counts₀ counts : List ℕ} {is : Bool} (t : TableReady g st counts₀) (r : TableJudged g st counts₀ is counts) where
+  pub judged-unsound : not is ≡ true → sound g st ≡ false
+  judged-unsound e = sym (r .judged) ∙ not-true is e
 
-  pub survey-sound : number ≡ 0 → sound g st ≡ true
-  unfolding storeRefusal
-  survey-sound z = go (sound g st) refl
-    where
-      go : (b : Bool) → sound g st ≡ b → sound g st ≡ true
-      go true e = e
-      go false e = absurd (let q : number ≡ 3 = r .promise .number-is ∙ rw (t .shaped .geometry, t .shaped .lengths, e) in omega (arith, q, z))
+  pub judged-sound : not is ≡ false → sound g st ≡ true
+  judged-sound e = sym (r .judged) ∙ not-false is e
 
   pub table-long : length counts ≡ length counts₀ → length counts ≡ g .N
   table-long e = e ∙ ap length (t .zero) ∙ length-replicate (g .N) 0
 
-  pub serves-known : {reply : List ℕ} → number ≡ 0 → length counts ≡ g .N → 32768 ≤ length reply → Serves g st counts reply
+  pub serves-known : {reply : List ℕ} → not is ≡ false → length counts ≡ g .N → 32768 ≤ length reply → Serves g st counts reply
   serves-known z n hr =
-      let snd = survey-sound z in
       record {
         shaped = t .shaped;
-        sound = snd;
-        counted = sound-counted g st counts (t .shaped) snd (surveyed-table g st snd r) n;
+        sound = judged-sound z;
+        counted = judged-table g st (t .shaped) (record { judged = sym (judged-sound z); table = r .table });
         blocks = n;
         room = hr;
       }

@@ -156,7 +156,7 @@ fn serve_counted(
     ensures { λ r. ⌜ Contract (call (configOf c) s reply) (before sizes words mem)
         (outcome r reply (after sizes words mem)) ⌝ }
 {
-    if tables::survey_tables(c.geometry, sizes, words, mem, counts).number != 0 {
+    if !tables::judge_tables(c.geometry, sizes, words, mem, counts) {
         return Served::refused(Surveyed::UNSOUND);
     }
     if Served::MAX_REQUEST < s.len() {

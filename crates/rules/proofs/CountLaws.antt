@@ -1,13 +1,13 @@
 -- Laws on counts. One says what `set` does to a count: every law on holders, used and owed blocks goes by it.
 use Prim.Native.Nat.{ℕ, zero, suc, _+_, _≤_, _<_}
-use mathlib.Core.Path.{_≡_, refl, ap}
-use mathlib.Core.Bool.{Bool}
-use mathlib.Core.List.{List, [], _∷_}
+use mathlib.Core.Path.{_≡_, refl, sym, ap, _∙_}
+use mathlib.Core.Bool.{Bool, true, false}
+use mathlib.Core.List.{List, [], _∷_, _++_}
 use mathlib.Core.Logic.{_≢_, _⊎_, inl, inr}
 use native.Mathlib.Nat.{not-suc-le-zero, le-of-suc-le-suc, eq-or-lt-of-le, le-step, le-refl}
 use native.Mathlib.Decide.{le-ind}
 use native.Mathlib.Omega.{arith}
-use lib.ListN.{length, getD, set, drop, drop-of-length-le}
+use lib.ListN.{length, getD, set, take, drop, take-append-drop, drop-of-length-le}
 use lib.Seq.{drop-cons}
 use Rattle.rules.specs.Lists.{bit, count, sumTo}
 
@@ -17,6 +17,43 @@ pub count-set : (p : ℕ → Bool) (l : List ℕ) (i x : ℕ) → i < length l
 count-set p [] i x h = absurd (not-suc-le-zero h)
 count-set p (y ∷ l) zero x h = omega arith
 count-set p (y ∷ l) (suc i) x h = omega (arith, count-set p l i x (le-of-suc-le-suc h))
+
+-- ---- how much a count can be, and its parts
+
+pub bit-most : (t : Bool) → bit t ≤ 1
+bit-most true = omega arith
+bit-most false = omega arith
+
+pub count-most : (p : ℕ → Bool) (l : List ℕ) → count p l ≤ length l
+count-most p [] = omega arith
+count-most p (x ∷ l) = omega (arith, bit-most (p x), count-most p l)
+
+pub count-append : (p : ℕ → Bool) (xs ys : List ℕ) → count p (xs ++ ys) ≡ count p xs + count p ys
+count-append p [] ys = omega arith
+count-append p (x ∷ xs) ys = omega (arith, count-append p xs ys)
+
+pub count-parts : (p : ℕ → Bool) (n : ℕ) (l : List ℕ) → count p l ≡ count p (take n l) + count p (drop n l)
+count-parts p n l = ap (count p) (sym (take-append-drop n l)) ∙ count-append p (take n l) (drop n l)
+
+-- nothing where no element passes; an element past the end is 0
+pub count-none-at : (p : ℕ → Bool) (l : List ℕ) → ((i : ℕ) → p (getD l i 0) ≡ false) → count p l ≡ 0
+count-none-at p [] h = refl
+count-none-at p (x ∷ l) h = omega (arith, ap bit (h 0), count-none-at p l (λ i. h (suc i)))
+
+-- where all are counted, each element passes
+pub count-all-at : (p : ℕ → Bool) (l : List ℕ) → count p l ≡ length l → (i : ℕ) → i < length l → p (getD l i 0) ≡ true
+count-all-at p [] e i h = absurd (not-suc-le-zero h)
+count-all-at p (x ∷ l) e zero h = one (p x) (omega (arith, e, count-most p l))
+  where
+    one : (t : Bool) → 1 ≤ bit t → t ≡ true
+    one true k = refl
+    one false k = absurd (omega arith)
+count-all-at p (x ∷ l) e (suc i) h = count-all-at p l (omega (arith, e, bit-most (p x), count-most p l)) i (le-of-suc-le-suc h)
+
+-- a weaker test counts no less
+pub count-mono : (p q : ℕ → Bool) → ((x : ℕ) → bit (p x) ≤ bit (q x)) → (l : List ℕ) → count p l ≤ count q l
+count-mono p q h [] = omega arith
+count-mono p q h (x ∷ l) = omega (arith, h x, count-mono p q h l)
 
 -- ---- sums over the numbers below n
 

@@ -14,16 +14,11 @@ use Rattle.rules.specs.Store.{Geometry, wordOf, isHole, isReserved, hold
 use Rattle.rules.specs.Attributes.{slotsOf, othersOf, heldAlone, freedBlocks, spaceFreed}
 use Rattle.rules.specs.Emptying.{sharesAlone, owedForFile, GivesBackRoom}
 use Rattle.xdr.proofs.BoolLaws.{and-false}
-use Rattle.rules.proofs.CountLaws.{sumTo-ext, sumTo-add, sumTo-cut}
+use Rattle.rules.proofs.CountLaws.{count-append, sumTo-ext, sumTo-add, sumTo-cut}
 use Rattle.rules.proofs.NeedLaws.{no-holder, used-to}
 use Rattle.rules.proofs.PlanLaws.{one-holder}
 
 -- ---- counts
-
--- two lists, one behind the other
-count-append : (p : ℕ → Bool) (xs ys : List ℕ) → count p (xs ++ ys) ≡ count p xs + count p ys
-count-append p [] ys = omega arith
-count-append p (x ∷ xs) ys = omega (arith, count-append p xs ys)
 
 -- a count that is the sum of two at each element
 count-sum : (p q r : ℕ → Bool) (ws : List ℕ) → ((i : ℕ) → i < length ws → bit (p (getD ws i 0)) ≡ bit (q (getD ws i 0)) + bit (r (getD ws i 0)))

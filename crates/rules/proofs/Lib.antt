@@ -4,6 +4,7 @@ pub mod AnswerLaws
 pub mod ArrayLaws
 pub mod AttributeLaws
 pub mod BodyLaws
+pub mod BoundLaws
 pub mod ChainLaws
 pub mod ClaimProof
 pub mod CloneLaws

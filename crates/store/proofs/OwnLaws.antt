@@ -23,7 +23,7 @@ use Rattle.tables.specs.Tables.{TableTrue, Stored}
 use Rattle.store.specs.declared.edit.Search.{Search}
 use Rattle.store.specs.Planner.{SlotChanged}
 use Rattle.store.proofs.KindLaws.{changed-done}
-use Rattle.tables.proofs.TallyLaws.{first-below, first-from, takes-same, tallied-free, tallied-full}
+use Rattle.tables.proofs.PoolLaws.{first-below, first-from, takes-same, tallied-free, tallied-full}
 
 -- ---- the lowest free block's number is at most the number of slots
 

@@ -5,25 +5,15 @@ ghost use lib.ListN.{length, getD};
 ghost use lib.Dec.{eqb};
 ghost use Rattle.xdr.specs.Bytes.{splice};
 ghost use Rattle.rules.specs.Lists.{allTo};
-ghost use Rattle.rules.specs.Store.{word, fitsPool};
+ghost use Rattle.rules.specs.Store.{word};
 ghost use Rattle.rules.specs.Edit.{owns};
-ghost use Rattle.tables.specs.Tables.{TableTrue};
 ghost use Rattle.store.specs.Plan.{Planned, Undoable, Undone, Settleable};
 ghost use Rattle.store.specs.Planner.{Changeable, SlotChanged};
 use crate::edit::Search;
+use tables::fits_pool;
 use tables::lowest_free;
-use tables::owed_slots;
 use tables::set_word;
 use tables::takes_block;
-use tables::used_blocks;
-
-// Whether used and owed blocks fit the pool.
-pub fn judge(words: &[u32], counts: &[u32]) -> bool
-    requires { ⌜ TableTrue (now words) (now counts) ⌝ }
-    ensures { λ r. ⌜ r ≡ fitsPool (length (now (counts .entry))) (now (words .entry)) ⌝ }
-{
-    used_blocks(counts) + owed_slots(words, counts) <= counts.len()
-}
 
 pub fn save_words(old: &mut [u32], words: &[u32])
     requires { ⌜ length (now old) ≡ length (now words) ⌝ }
@@ -73,7 +63,7 @@ pub fn settle(words: &mut [u32], counts: &mut [u32], i: usize, old: &[u32]) -> b
     if same_words(&words[i..end], old) {
         return true;
     }
-    if judge(words, counts) {
+    if fits_pool(words, counts) {
         return true;
     }
     undo(words, counts, i, old);

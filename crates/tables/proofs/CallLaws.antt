@@ -1,13 +1,12 @@
 -- The ways out of the store's own calls: one law for each refusal, and one for the answer.
-use Prim.Native.Nat.{ℕ, suc, _+_, _*_, _/_}
+use Prim.Native.Nat.{ℕ, suc}
 use mathlib.Core.Path.{_≡_, sym, ap, _∙_}
-use mathlib.Core.Bool.{Bool, true, false}
+use mathlib.Core.Bool.{true, false}
 use native.Mathlib.Omega.{arith}
-use lib.ListN.{length, getD, replicate}
-use lib.Dec.{leb, eqb}
+use lib.ListN.{length, replicate}
+use lib.Dec.{eqb}
 use borrow.Author.Tests.{ne-eqb}
-use Rattle.rules.specs.Lists.{allTo}
-use Rattle.rules.specs.Store.{Geometry, goodGeometry, Store, goodLengths, emptyStore, sound, soundFile, used, owed}
+use Rattle.rules.specs.Store.{Geometry, goodGeometry, Store, goodLengths, emptyStore, sound, used, owed}
 use Rattle.rules.specs.Calls.{makeRefusal, madeStore, MakePromise, storeRefusal, usedCount, owedCount, SurveyPromise}
 use Rattle.tables.specs.Tables.{Shaped}
 use Rattle.rules.proofs.GeometryLaws.{lengths}
@@ -68,22 +67,3 @@ module _ (g : Geometry) (st : Store) where
   unfolding usedCount owedCount storeRefusal
   survey-sound h k =
       record { number-is = rw (h .geometry, h .lengths, k); used-is = rw (h .geometry, h .lengths, k); owed-is = rw (h .geometry, h .lengths, k) }
-
-  -- the parts of `sound`
-  abbrev formed : Bool
-  formed = allTo (g .F * g .S) (λ i. leb (getD (st .words) i 0 / 2) (g .N))
-
-  abbrev files : Bool
-  files = allTo (g .F) (soundFile g st)
-
-  pub sound-words : formed ≡ false → sound g st ≡ false
-  unfolding sound
-  sound-words h = rw h
-
-  pub sound-files : formed ≡ true → files ≡ false → sound g st ≡ false
-  unfolding sound
-  sound-files h k = rw (h, k)
-
-  pub sound-room : formed ≡ true → files ≡ true → (t : Bool) → leb (used (st .words) + owed (st .words)) (g .N) ≡ t → sound g st ≡ t
-  unfolding sound
-  sound-room h k t e = rw (h, k) e

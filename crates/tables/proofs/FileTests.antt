@@ -1,23 +1,24 @@
 -- Laws on the test of files: its loops, the slots past a file's size, and the bytes of its last slot past the size.
 use Prim.Native.Nat.{ℕ, zero, suc, _+_, _-_, _*_, _/_, _%_, _≤_, _<_}
 use mathlib.Core.Path.{_≡_, refl, sym, _∙_}
-use mathlib.Core.Bool.{Bool, true, false, _||_, not, true≢false}
+use mathlib.Core.Bool.{Bool, true, false, _&&_, _||_, not, true≢false}
 use mathlib.Core.List.{List}
 use native.Mathlib.Nat.{le-refl, le-step, add-zero, add-suc, add-assoc, add-sub-of-le, div-add-mod', mod-lt, mul-le-mul-right, le-of-mul-le-mul-right, mul-add-div-right, mul-add-mod-self-right, div-eq-of-lt, mod-eq-of-lt}
 use native.Mathlib.Numerals.{add-one, sub-one}
 use native.Mathlib.Decide.{decLe}
 use native.Mathlib.Omega.{arith}
-use borrow.Author.Tests.{lt-ltb, le-ltb, le-leb, lt-leb, eq-eqb, ne-eqb, not-true, not-false}
+use borrow.Author.Tests.{lt-ltb, le-ltb, leb-true, le-leb, lt-leb, eq-eqb, ne-eqb, not-true, not-false}
 use lib.ListN.{length, getD, take, drop, length-drop}
 use lib.Seq.{length-take-le, getD-take, getD-drop}
-use lib.Dec.{ltb, eqb}
+use lib.Dec.{leb, ltb, eqb}
 use Rattle.rules.specs.Lists.{allTo, ceilDiv}
 use Rattle.rules.specs.Store.{Geometry, Store, sizeOf, wordOf, slotByte, byteAt, soundFile}
 use Rattle.tables.specs.Tables.{FileKnown}
 use Rattle.rules.proofs.GeometryLaws.{Good, good, block-pos, file-most, lengths}
-use Rattle.xdr.proofs.BoolLaws.{and-both, and-false, or-inl}
+use Rattle.xdr.proofs.BoolLaws.{and-both, and-left, and-right, and-false, or-inl}
 use Rattle.rules.proofs.SoundStore.{ceil-le, le-ceil}
 use Rattle.rules.proofs.SoundLaws.{allTo-at, allTo-all}
+use Rattle.tables.proofs.GroupLaws.{allTo-ext}
 
 -- ---- a loop that tests the numbers below n, one a turn: those below i passed
 
@@ -43,10 +44,6 @@ failed n i p l t = go (allTo n p) refl
 
 -- ---- tests that agree
 
-allTo-ext : (n : ℕ) (p q : ℕ → Bool) → ((i : ℕ) → i < n → p i ≡ q i) → allTo n p ≡ allTo n q
-allTo-ext zero p q h = refl
-allTo-ext (suc n) p q h = rw (h n (le-refl (suc n)), allTo-ext n p q (λ i l. h i (le-step l)))
-
 -- a test that the numbers below c pass
 allTo-from : (c d : ℕ) (p : ℕ → Bool) → allTo (c + d) (λ k. ltb k c || p k) ≡ allTo d (λ j. p (c + j))
 allTo-from c zero p = rw (add-zero c) (allTo-all c _ (λ k l. or-inl (ltb k c) (p k) (lt-ltb k c l)))
@@ -56,6 +53,14 @@ allTo-from c (suc d) p = rw (add-suc c d, le-ltb (c + d) c (omega arith), allTo-
 
 abbrev pub zeros : List ℕ → Bool
 zeros l = allTo (length l) (λ j. eqb (getD l j 0) 0)
+
+-- as the code tests words
+pub zeros-most : (l : List ℕ) → allTo (length l) (λ j. leb (getD l j 0) 0) ≡ zeros l
+zeros-most l = allTo-ext (length l) _ _ (λ j h. none (getD l j 0))
+  where
+    none : (x : ℕ) → leb x 0 ≡ eqb x 0
+    none zero = refl
+    none (suc x) = lt-leb (suc x) 0 (omega arith) ∙ sym (ne-eqb (suc x) 0 (λ (e : suc x ≡ 0). omega arith))
 
 -- of s elements at place k those from `from` on, as the code lends them
 abbrev pub part : List ℕ → ℕ → ℕ → ℕ → List ℕ
@@ -178,3 +183,16 @@ module _ {g : Geometry} {st : Store} {f : ℕ} (r : FileRoom g st f) where
           let n : ceilDiv (sizeOf st f) (g .B) * g .B - sizeOf st f ≡ g .B - sizeOf st f % g .B =
           rw (ceil-odd (r .pos) _ d) (omega (arith, div-add-mod' (sizeOf st f) (g .B))) in
           e ∙ rw (le-leb _ _ fits, ← is, not-false t pass, n) (allTo-ext (g .B - sizeOf st f % g .B) _ _ (λ j h. rw (same-slot (r .pos) _ j h, same-offset (r .pos) _ j h)))
+
+-- what a sound file's slots are
+module _ (g : Geometry) (st : Store) (f : ℕ) where
+  abbrev bytesTest : Bool
+  bytesTest = allTo (ceilDiv (sizeOf st f) (g .B) * g .B - sizeOf st f) (λ j. eqb (byteAt g st f (sizeOf st f + j)) 0)
+
+  pub file-fits : soundFile g st f ≡ true → sizeOf st f ≤ g .S * g .B
+  unfolding soundFile
+  file-fits is = leb-true (sizeOf st f) (g .S * g .B) (and-left (leb (sizeOf st f) (g .S * g .B)) (slotsTest g st f) (and-left (leb (sizeOf st f) (g .S * g .B) && slotsTest g st f) bytesTest is))
+
+  pub file-past : soundFile g st f ≡ true → slotsTest g st f ≡ true
+  unfolding soundFile
+  file-past is = and-right (leb (sizeOf st f) (g .S * g .B)) (slotsTest g st f) (and-left (leb (sizeOf st f) (g .S * g .B) && slotsTest g st f) bytesTest is)

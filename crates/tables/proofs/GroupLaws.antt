@@ -14,7 +14,7 @@ use Rattle.tables.specs.Groups.{groupAt, groupAll}
 use Rattle.xdr.proofs.BoolLaws.{and-left, and-right}
 use Rattle.rules.proofs.SoundLaws.{allTo-at}
 
-allTo-ext : (n : ℕ) (p q : ℕ → Bool) → ((i : ℕ) → i < n → p i ≡ q i) → allTo n p ≡ allTo n q
+pub allTo-ext : (n : ℕ) (p q : ℕ → Bool) → ((i : ℕ) → i < n → p i ≡ q i) → allTo n p ≡ allTo n q
 allTo-ext zero p q h = refl
 allTo-ext (suc n) p q h = rw (h n (le-refl (suc n)), allTo-ext n p q (λ i l. h i (omega arith)))
 

@@ -2,6 +2,8 @@ pub mod CallLaws
 pub mod SlotLaws
 pub mod GroupLaws
 pub mod TallyLaws
+pub mod HeadLaws
+pub mod PoolLaws
 pub mod WordLaws
 pub mod SpaceLaws
 pub mod FileTests

@@ -14,12 +14,14 @@ use lib.Dec.{ltb, eqb, eqb·suc-suc, eqb·suc-zero}
 use Rattle.rules.specs.Lists.{bit, count, countTo}
 use Rattle.rules.specs.Store.{Geometry, isReserved, holds, holders, blockBound, owes}
 use Rattle.rules.specs.Attributes.{slotsOf, othersOf, takesRoom, heldAlone, freedBlocks}
-use Rattle.rules.proofs.CountLaws.{sumTo-ext, sumTo-point, sumTo-cut, count-drop, count-end}
+use Rattle.rules.proofs.CountLaws.{bit-most, count-most, sumTo-ext, sumTo-point, sumTo-cut, count-drop, count-end}
 use Rattle.rules.proofs.EmptyingLaws.{alone-cut, file-parts}
 use Rattle.rules.proofs.PlanLaws.{InPool}
 use Rattle.tables.specs.Tally.{forgot, Forgettable, NotesFit, NotedAll, owesBy}
 use Rattle.tables.specs.Space.{Counted, blockFree, ForgotLast, heldOnly, ForgotAll, SlotsKnown, SlotsSpace, SpaceKnown, SpaceIs}
-use Rattle.tables.proofs.TallyLaws.{bit-most, count-most, count-ext, pool-top, takes-same}
+use Rattle.rules.proofs.GeometryLaws.{good}
+use Rattle.tables.proofs.TallyLaws.{pool-part}
+use Rattle.tables.proofs.PoolLaws.{count-ext, pool-top, takes-same}
 use Rattle.tables.proofs.WordLaws.{length-forgot, forgot-at}
 
 -- ---- one slot forgotten: the ways out of `forget_last`
@@ -146,6 +148,7 @@ module _ {ws before mid : List ℕ} {alone : ℕ} (known : SlotsKnown ws before)
     few = λ b h.
         let l : b < length before = omega (arith, forgotten .long) in
         omega (arith, forgotten .each b l, known .few b l);
+    short = known .looked-up .few;
   }
 
   pub alone-few : alone ≤ length before
@@ -162,12 +165,6 @@ module _ {ws before mid : List ℕ} {alone : ℕ} (known : SlotsKnown ws before)
   }
 
 -- ---- the slots of a file among all slots
-
-inPool-take : (n s : ℕ) (ws : List ℕ) → InPool n ws → InPool n (take s ws)
-inPool-take n zero ws h p = omega arith
-inPool-take n (suc s) [] h p = omega arith
-inPool-take n (suc s) (w ∷ ws) h zero = h 0
-inPool-take n (suc s) (w ∷ ws) h (suc p) = inPool-take n s ws (λ q. h (suc q)) p
 
 -- a slot that holds a block or is reserved
 takes-room : (w : ℕ) → ltb 0 w ≡ takesRoom w
@@ -197,7 +194,10 @@ module _ {g : Geometry} {ws counts : List ℕ} {f : ℕ} (known : SpaceKnown g w
   split b h = known .counted .table .each b h ∙ file-parts g ws f (holds b)
 
   own-pool : InPool (length counts) own
-  own-pool = inPool-take (length counts) (g .S) (drop (f * g .S) ws) (λ p. rw (getD-drop (f * g .S) ws p 0) (known .counted .pool (f * g .S + p)))
+  own-pool = pool-part (length counts) (g .S) (f * g .S) ws (known .counted .pool)
+
+  own-short : length own ≤ g .S
+  own-short = omega (arith, length-take (g .S) (drop (f * g .S) ws))
 
   -- the file's slots lie in the table
   pub slots-inside : f * g .S + g .S ≤ length ws
@@ -206,6 +206,7 @@ module _ {g : Geometry} {ws counts : List ℕ} {f : ℕ} (known : SpaceKnown g w
   pub slots-known : SlotsKnown (slotsOf g ws f) counts
   slots-known = record {
     counted = record { pool = own-pool; held = λ b h. omega (arith, split b h) };
+    looked-up = record { pool = own-pool; some = known .counted .some; few = omega (arith, own-short, good g (known .geometry) .slots-most) };
     few = λ b h. omega (arith, known .counted .table .each b h, count-most (holds b) ws, known .counted .few);
   }
 
@@ -222,9 +223,6 @@ module _ {g : Geometry} {ws counts : List ℕ} {f : ℕ} (known : SpaceKnown g w
       omega (arith, same, alone-cut n own others top, owe)
 
   -- how large the numbers are
-  own-short : length own ≤ g .S
-  own-short = omega (arith, length-take (g .S) (drop (f * g .S) ws))
-
   pub used-most : count takesRoom (slotsOf g ws f) ≤ g .S
   used-most = omega (arith, count-most takesRoom own, own-short)
 

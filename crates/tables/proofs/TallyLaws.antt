@@ -1,60 +1,29 @@
--- Laws on the table of holders: how one pass fills it, and that what is read off it is what the rules count.
-use Prim.Native.Nat.{ℕ, zero, suc, _+_, _-_, _/_, _≤_, _<_}
+-- Laws on the table of holders: how slots are noted in it, one by one, in groups and file by file.
+use Prim.Native.Nat.{ℕ, zero, suc, pred, _+_, _-_, _*_, _/_, _≤_, _<_}
 use mathlib.Core.Path.{_≡_, refl, sym, ap, _∙_}
-use mathlib.Core.Bool.{Bool, true, false, _&&_, _||_, not, true≢false}
-use mathlib.Core.List.{List, [], _∷_}
+use mathlib.Core.Bool.{Bool, true, false, cond, true≢false}
+use mathlib.Core.List.{List}
 use mathlib.Core.Logic.{_≢_}
-use native.Mathlib.Nat.{le-of-suc-le-suc, add-zero}
+use native.Mathlib.Nat.{add-zero}
 use native.Mathlib.Decide.{decLt}
 use native.Mathlib.Numerals.{add-one, sub-one}
 use native.Mathlib.Omega.{arith}
-use borrow.Author.Tests.{not-true, eq-eqb, ne-eqb, eqb-true, eqb-false, ltb-true}
-use lib.ListN.{length, getD, set, drop, getD-replicate}
-use lib.Seq.{getD-set-same, getD-set-other}
-use lib.Dec.{ltb, eqb}
-use Rattle.rules.specs.Lists.{bit, count, sumTo, countTo, allTo}
-use Rattle.rules.specs.Store.{isHole, isReserved, isShared, holds, holders, blockBound, used, owes, owed, lowestFree}
+use borrow.Author.Tests.{eq-eqb, ne-eqb, eqb-true, eqb-false, lt-ltb, le-ltb, ltb-true, leb-true, le-leb, lt-leb}
+use lib.ListN.{length, length-set, length-take, getD, set, take, drop, getD-replicate, List·getD-eq-default}
+use lib.Seq.{getD-set-same, getD-set-other, set-getD, getD-take, getD-drop, take-take, drop-drop}
+use lib.Dec.{leb, ltb, eqb, eqb·suc-zero}
+use Rattle.rules.specs.Lists.{bit, count, allTo}
+use Rattle.rules.specs.Store.{Geometry, isHole, holds, holders}
+use Rattle.rules.specs.Attributes.{slotsOf}
 use Rattle.tables.specs.Tables.{Tallied}
-use Rattle.tables.specs.Tally.{noted, NotesFit, NotedAll, Untallied, takesBy, owesBy, OwedFrom, firstZero, HeldFrom}
-use Rattle.tables.specs.declared.groups.Sort.{Sort}
-use Rattle.tables.specs.Groups.{ofSort, groupAll}
-use Rattle.rules.proofs.CountLaws.{sumTo-ext, count-drop}
-use Rattle.rules.proofs.NeedLaws.{lowestFree-free, scan-ends, used-to}
-use Rattle.xdr.proofs.BoolLaws.{and-false}
+use Rattle.tables.specs.Tally.{noted, Known, GroupFits, NotesFitFrom, NotedAll, NotedFrom}
+use Rattle.tables.specs.declared.tally.Slots.{Slots}
+use Rattle.tables.specs.Groups.{groupAt}
+use Rattle.rules.proofs.CountLaws.{count-drop, count-parts, count-all-at}
+use Rattle.rules.proofs.BoundLaws.{holders-held}
 use Rattle.rules.proofs.SoundLaws.{allTo-at}
 use Rattle.rules.proofs.PlanLaws.{InPool}
-use Rattle.tables.proofs.GroupLaws.{group-inside, group-each}
-
--- ---- tests and counts
-
-pub allTo-fails : (n i : ℕ) (p : ℕ → Bool) → i < n → p i ≡ false → allTo n p ≡ false
-allTo-fails n i p h e = go (allTo n p) refl
-  where
-    go : (t : Bool) → allTo n p ≡ t → t ≡ false
-    go true q = absurd (true≢false (sym (allTo-at n p q i h) ∙ e))
-    go false q = refl
-
-pub bit-most : (t : Bool) → bit t ≤ 1
-bit-most true = omega arith
-bit-most false = omega arith
-
-pub count-most : (p : ℕ → Bool) (l : List ℕ) → count p l ≤ length l
-count-most p [] = omega arith
-count-most p (x ∷ l) = omega (arith, bit-most (p x), count-most p l)
-
--- equal at each element
-pub count-ext : (p q : ℕ → Bool) (l : List ℕ) → ((i : ℕ) → p (getD l i 0) ≡ q (getD l i 0)) → count p l ≡ count q l
-count-ext p q [] h = refl
-count-ext p q (x ∷ l) h = omega (arith, ap bit (h 0), count-ext p q l (λ i. h (suc i)))
-
-sumTo-front : (n : ℕ) (f : ℕ → ℕ) → sumTo (suc n) f ≡ f 0 + sumTo n (λ b. f (suc b))
-sumTo-front zero f = refl
-sumTo-front (suc n) f = omega (arith, sumTo-front n f)
-
--- a count over a list, as one over its indices
-count-at : (p : ℕ → Bool) (l : List ℕ) → count p l ≡ countTo (length l) (λ i. p (getD l i 0))
-count-at p [] = refl
-count-at p (x ∷ l) = omega (arith, count-at p l, sumTo-front (length l) (λ i. bit (p (getD (x ∷ l) i 0))))
+use Rattle.tables.proofs.GroupLaws.{allTo-ext, group-room}
 
 -- ---- one word noted
 
@@ -66,6 +35,36 @@ pub noted-some : (k : ℕ) (cs : List ℕ) → k ≢ 0 → set cs (k - 1) (getD 
 unfolding noted
 noted-some zero cs h = absurd (h refl)
 noted-some (suc b) cs h = rw (sub-one (suc b))
+
+-- the place of a block, or a hole's own
+pub place-inside : (w own n : ℕ) → w / 2 ≤ n → own < n → cond (isHole w) own (pred (w / 2)) < n
+place-inside w own n h l = go (w / 2) refl
+  where
+    go : (k : ℕ) → w / 2 ≡ k → cond (eqb k 0) own (pred k) < n
+    go zero e = l
+    go (suc b) e = rw (eqb·suc-zero b) (omega arith)
+
+pub place-first : (w : ℕ) → cond (isHole w) 0 (pred (w / 2)) ≡ pred (w / 2)
+place-first w = go (w / 2)
+  where
+    go : (k : ℕ) → cond (eqb k 0) 0 (pred k) ≡ pred k
+    go zero = refl
+    go (suc b) = rw (eqb·suc-zero b)
+
+-- a hole adds nothing, wherever it does
+pub noted-mixed : (w own : ℕ) (cs : List ℕ)
+    → set cs (cond (isHole w) own (pred (w / 2))) (getD cs (cond (isHole w) own (pred (w / 2))) 0 + bit (ltb 1 w)) ≡ noted (w / 2) cs
+unfolding noted
+noted-mixed w own cs = go (w / 2) refl
+  where
+    go : (k : ℕ) → w / 2 ≡ k → set cs (cond (eqb k 0) own (pred k)) (getD cs (cond (eqb k 0) own (pred k)) 0 + bit (ltb 1 w)) ≡ noted k cs
+    go zero e = rw (le-ltb 1 w (omega arith), add-zero (getD cs own 0)) (set-getD cs own 0)
+    go (suc b) e = rw (lt-ltb 1 w (omega arith), eqb·suc-zero b)
+
+pub length-noted : (k : ℕ) (cs : List ℕ) → length (noted k cs) ≡ length cs
+unfolding noted
+length-noted zero cs = refl
+length-noted (suc b) cs = length-set cs b (getD cs b 0 + 1)
 
 pub noted-at : (k : ℕ) (cs : List ℕ) (b : ℕ) → b < length cs → getD (noted k cs) b 0 ≡ getD cs b 0 + bit (eqb k (suc b))
 unfolding noted
@@ -85,155 +84,79 @@ pub noted-turn : (ws cs : List ℕ) (i b : ℕ) → i < length ws → b < length
     → getD (noted (getD ws i 0 / 2) cs) b 0 + holders b (drop (i + 1) ws) ≡ getD cs b 0 + holders b (drop i ws)
 noted-turn ws cs i b h k = rw (add-one i) (omega (arith, noted-at (getD ws i 0 / 2) cs b k, count-drop (holds b) ws i h))
 
--- a table of zeros: what `note_all` asks, and what it leaves
-module _ {ws cs : List ℕ} (ready : Untallied ws cs) where
-  zero-at : (b : ℕ) → b < length cs → getD cs b 0 ≡ 0
-  zero-at b h = ap (λ (l : List ℕ). getD l b 0) (ready .zeros) ∙ getD-replicate (length cs) b 0 0 h
+-- ---- words tested
 
-  pub zeros-fit : NotesFit ws cs
-  zeros-fit = record { pool = ready .pool; few = λ b h. omega (arith, zero-at b h, count-most (holds b) ws, ready .few) }
-
-  pub zeros-noted : {after : List ℕ} → NotedAll ws cs after → Tallied ws after
-  zeros-noted t = record {
-    each = λ b h.
-        let l : b < length cs = omega (arith, t .long) in
-        omega (arith, t .each b l, zero-at b l);
-  }
-
--- ---- the search for the first 0
-
-first-zero : (l : List ℕ) → firstZero l < length l → getD l (firstZero l) 0 ≡ 0
-unfolding firstZero
-first-zero [] h = refl
-first-zero (zero ∷ l) h = refl
-first-zero (suc x ∷ l) h = first-zero l (le-of-suc-le-suc h)
-
-pub first-below : (l : List ℕ) (b : ℕ) → b < firstZero l → (b < length l) × (1 ≤ getD l b 0)
-unfolding firstZero
-first-below [] b h = absurd (omega arith)
-first-below (zero ∷ l) b h = absurd (omega arith)
-first-below (suc x ∷ l) zero h = omega arith
-first-below (suc x ∷ l) (suc b) h =
-    let r = first-below l b (le-of-suc-le-suc h) in
-    (omega arith, r .1)
-
--- it is not below b where none below b is 0
-pub first-from : (l : List ℕ) (b : ℕ) → b ≤ length l → ((c : ℕ) → c < b → 0 < getD l c 0) → b ≤ firstZero l
-first-from l b h held = go (decLt (firstZero l) b)
+formed-most : (w n : ℕ) → leb w (2 * n + 1) ≡ leb (w / 2) n
+formed-most w n = go (decLt (2 * n + 1) w)
   where
-    go : Dec (firstZero l < b) → b ≤ firstZero l
-    go (yes k) = absurd (omega (arith, held (firstZero l) k, first-zero l (omega arith)))
-    go (no d) = omega (arith, d)
+    go : Dec (2 * n + 1 < w) → leb w (2 * n + 1) ≡ leb (w / 2) n
+    go (yes h) = lt-leb w (2 * n + 1) h ∙ sym (lt-leb (w / 2) n (omega arith))
+    go (no d) = le-leb w (2 * n + 1) (omega (arith, d)) ∙ sym (le-leb (w / 2) n (omega (arith, d)))
 
-module _ (l : List ℕ) (b : ℕ) (from : b ≤ firstZero l) where
-  -- it is b where b is 0, and where nothing is left
-  pub first-here : (b < length l → getD l b 0 ≡ 0) → b ≡ firstZero l
-  first-here h = go (decLt b (firstZero l))
-    where
-      go : Dec (b < firstZero l) → b ≡ firstZero l
-      go (yes k) = let r = first-below l b k in absurd (omega (arith, r .1, h (r .0)))
-      go (no d) = omega (arith, d)
+-- words that name one of n blocks, or none, are at most 2 * n + 1
+pub words-most : (ws : List ℕ) (n : ℕ) → allTo (length ws) (λ i. leb (getD ws i 0) (2 * n + 1)) ≡ allTo (length ws) (λ i. leb (getD ws i 0 / 2) n)
+words-most ws n = allTo-ext (length ws) _ _ (λ i h. formed-most (getD ws i 0) n)
 
-  pub first-behind : (n : ℕ) → HeldFrom l b n → b + n ≤ firstZero l
-  first-behind n h = first-from l (b + n) (h .inside) (λ c u. go c u (decLt c b))
-    where
-      go : (c : ℕ) → c < b + n → Dec (c < b) → 0 < getD l c 0
-      go c u (yes k) = first-below l c (omega arith) .1
-      go c u (no d) =
-          let j : ℕ = c - b in
-          let e : b + j ≡ c = omega (arith, d) in
-          rw e at (h .held j (omega (arith, d)))
+-- ---- some words noted
 
--- ---- how many are seen to be held
+-- holders of a part and behind it
+pub holders-from : (b i n : ℕ) (ws : List ℕ) → holders b (take n (drop i ws)) + holders b (drop (i + n) ws) ≡ holders b (drop i ws)
+holders-from b i n ws =
+    sym (count-parts (holds b) n (drop i ws) ∙ ap (λ (l : List ℕ). holders b (take n (drop i ws)) + holders b l) (drop-drop n i ws))
 
-module _ (l : List ℕ) (b : ℕ) (inside : b < length l) where
-  pub held-none : getD l b 0 ≡ 0 → HeldFrom l b 0
-  held-none e = record { inside = omega arith; held = λ j h. absurd (omega arith); free = λ q. e }
+-- the blocks of a part are in the pool
+pub pool-part : (n m i : ℕ) (ws : List ℕ) → InPool n ws → InPool n (take m (drop i ws))
+pool-part n m i ws h p = go (decLt p m)
+  where
+    go : Dec (p < m) → getD (take m (drop i ws)) p 0 / 2 ≤ n
+    go (yes l) = rw (getD-take m (drop i ws) p 0 l, getD-drop i ws p 0) (h (i + p))
+    go (no d) = rw (List·getD-eq-default (take m (drop i ws)) 0 {n = p} (omega (arith, d, length-take m (drop i ws)))) (omega arith)
 
-  pub held-one : 0 < getD l b 0 → HeldFrom l b 1
-  held-one e = record {
-    inside = omega arith;
-    held = λ j h.
-        let z : b + j ≡ b = omega arith in
-        rw z e;
-    free = λ q. absurd (omega arith);
-  }
+-- where all words are above 1 each slot holds a block; where none is, none does
+pub all-held : (l : List ℕ) → count (ltb 1) l ≡ length l → (i : ℕ) → i < length l → 0 < getD l i 0 / 2
+all-held l e i h = omega (arith, ltb-true 1 (getD l i 0) (count-all-at (ltb 1) l e i h))
 
-  pub held-group : groupAll (ofSort Sort.Held) l b ≡ true → HeldFrom l b 16
-  held-group e = record {
-    inside = group-inside (ofSort Sort.Held) l b e;
-    held = λ j h. ltb-true 0 (getD l (b + j) 0) (group-each (ofSort Sort.Held) l b e j h);
-    free = λ q. absurd (omega arith);
-  }
+pub all-holes : (l cs : List ℕ) → count (ltb 1) l ≡ 0 → NotedAll l cs cs
+all-holes l cs e = record { long = refl; each = λ b h. omega (arith, holders-held b l, e) }
 
--- ---- how many are seen to owe a block
+-- what is known of all is known of each
+pub known-at : (slots : Slots) (ws before counts : List ℕ) (i : ℕ) → i < length ws → length counts ≡ length before
+    → Known slots ((j : ℕ) → j < length ws → 0 < getD ws j 0 / 2) (length ws ≤ length before) → Known slots (0 < getD ws i 0 / 2) (i < length counts)
+known-at Slots.Held ws before counts i h e all = all i h
+known-at Slots.Mixed ws before counts i h e l = omega arith
 
--- n numbers of which p does not hold
-count-skip : (p : ℕ → Bool) (l : List ℕ) (n i : ℕ) → i + n ≤ length l → ((j : ℕ) → j < n → p (getD l (i + j) 0) ≡ false) → count p (drop (i + n) l) ≡ count p (drop i l)
-count-skip p l zero i room h = ap (λ k. count p (drop k l)) (add-zero i)
-count-skip p l (suc n) i room h =
-    let here : p (getD l i 0) ≡ false = rw (add-zero i) at (h 0 (omega arith)) in
-    let next : i + suc n ≡ suc i + n = omega arith in
-    rw next (omega (
-      arith,
-      count-skip p l n (suc i) (omega arith) (λ j k. let e : suc i + j ≡ i + suc j = omega arith in rw e (h (suc j) (omega arith))),
-      count-drop p l i (omega arith),
-      ap bit here,
-    ))
+-- ---- in groups
 
+-- one slot noted
+pub noted-one : (ws cs : List ℕ) (i : ℕ) → i < length ws → NotedFrom ws i 1 cs (noted (getD ws i 0 / 2) cs)
+noted-one ws cs i h = record {
+  some = omega arith;
+  inside = omega arith;
+  long = length-noted (getD ws i 0 / 2) cs;
+  rest = λ b k. noted-turn ws cs i b h k;
+}
+
+-- a group of them, as the code takes it
 module _ (ws cs : List ℕ) (i : ℕ) where
-  pub owed-group : groupAll (ofSort Sort.Unreserved) ws i ≡ true → OwedFrom ws cs i 16 0
-  owed-group e =
-      let room : i + 16 ≤ length ws = group-inside (ofSort Sort.Unreserved) ws i e in
-      record {
-        some = omega arith;
-        inside = room;
-        rest = omega (
-          arith,
-          count-skip (owesBy cs) ws 16 i room
-              (λ j h. rw (not-true (isReserved (getD ws (i + j) 0)) (group-each (ofSort Sort.Unreserved) ws i e j h), and-false)),
-        );
-      }
+  sixteen : i + 16 - i ≡ 16
+  sixteen = omega arith
 
-  pub owed-one : i < length ws → OwedFrom ws cs i 1 (bit (owesBy cs (getD ws i 0)))
-  owed-one h = record { some = omega arith; inside = omega arith; rest = rw (add-one i) (sym (count-drop (owesBy cs) ws i h)) }
+  -- what `note_group` asks
+  pub group-fits : NotesFitFrom ws cs i → 16 ≤ length cs → GroupFits (take (i + 16 - i) (drop i ws)) cs
+  unfolding sixteen
+  group-fits f l =
+      rw sixteen
+      (record {
+        fits = record {
+          pool = pool-part (length cs) 16 i ws (f .pool);
+          few = λ b h. omega (arith, f .few b h, holders-from b i 16 ws);
+          short = omega (arith, length-take 16 (drop i ws));
+        };
+        room = omega (arith, length-take 16 (drop i ws));
+      })
 
--- ---- read off the table
-
-pub pool-top : (n : ℕ) (ws : List ℕ) → InPool n ws → blockBound ws ≤ n
-pool-top n [] h = omega arith
-pool-top n (w ∷ ws) h = omega (arith, h 0, pool-top n ws (λ p. h (suc p)))
-
-module _ (ws cs : List ℕ) (tallied : Tallied ws cs) (pool : InPool (length cs) ws) where
-  pub tallied-used : count (ltb 0) cs ≡ used ws
-  tallied-used =
-      count-at (ltb 0) cs
-      ∙ sumTo-ext (length cs) _ _ (λ b h. ap (λ n. bit (ltb 0 n)) (tallied .each b h))
-      ∙ sym (used-to (length cs) ws (pool-top (length cs) ws pool))
-
-  pub takes-same : (w : ℕ) → w / 2 ≤ length cs → takesBy cs w ≡ (isHole w || isShared ws w)
-  takes-same w h = go (w / 2) refl
-    where
-      go : (k : ℕ) → w / 2 ≡ k → takesBy cs w ≡ (isHole w || isShared ws w)
-      go zero e = rw e
-      go (suc b) e = rw (e, tallied .each b (omega arith))
-
-  pub tallied-owed : count (owesBy cs) ws ≡ owed ws
-  unfolding owed
-  tallied-owed = count-ext (owesBy cs) (owes ws) ws (λ i. ap (λ t. t && isReserved (getD ws i 0)) (takes-same (getD ws i 0) (pool i)))
-
-  first-least : firstZero cs ≤ lowestFree ws
-  first-least = go (decLt (lowestFree ws) (firstZero cs))
-    where
-      go : Dec (lowestFree ws < firstZero cs) → firstZero cs ≤ lowestFree ws
-      go (yes h) =
-          let r = first-below cs (lowestFree ws) h in
-          absurd (omega (arith, tallied .each (lowestFree ws) (r .0), lowestFree-free ws))
-      go (no d) = omega (arith, d)
-
-  pub tallied-free : firstZero cs < length cs → firstZero cs ≡ lowestFree ws
-  tallied-free h = scan-ends ws (firstZero cs) first-least (sym (tallied .each (firstZero cs) h) ∙ first-zero cs h)
-
-  -- no block of the table is free
-  pub tallied-full : length cs ≤ firstZero cs → length cs ≤ lowestFree ws
-  tallied-full h = omega (arith, first-least)
+  pub noted-group : groupAt i (length ws) ≡ true → {after : List ℕ} → NotedAll (take (i + 16 - i) (drop i ws)) cs after → NotedFrom ws i 16 cs after
+  unfolding sixteen
+  noted-group group t =
+      let a = rw sixteen at t in
+      record { some = omega arith; inside = group-room i (length ws) group; long = t .long; rest = λ b h. omega (arith, a .each b h, holders-from b i 16 ws) }

@@ -14,9 +14,9 @@ use Rattle.rules.specs.Lists.{bit}
 use Rattle.rules.specs.Store.{holds, holders}
 use Rattle.tables.specs.Tally.{noted, forgot}
 use Rattle.tables.specs.Tables.{TableTrue, Stored}
-use Rattle.rules.proofs.CountLaws.{count-set}
+use Rattle.rules.proofs.CountLaws.{count-set, count-most}
 use Rattle.rules.proofs.PlanLaws.{inPool-set}
-use Rattle.tables.proofs.TallyLaws.{noted-at, count-most}
+use Rattle.tables.proofs.TallyLaws.{length-noted, noted-at}
 
 pub forgot-none : (k : ℕ) (cs : List ℕ) → k ≡ 0 → cs ≡ forgot k cs
 unfolding forgot
@@ -31,11 +31,6 @@ pub length-forgot : (k : ℕ) (cs : List ℕ) → length (forgot k cs) ≡ lengt
 unfolding forgot
 length-forgot zero cs = refl
 length-forgot (suc b) cs = length-set cs b (getD cs b 0 - 1)
-
-pub length-noted : (k : ℕ) (cs : List ℕ) → length (noted k cs) ≡ length cs
-unfolding noted
-length-noted zero cs = refl
-length-noted (suc b) cs = length-set cs b (getD cs b 0 + 1)
 
 pub forgot-at : (k : ℕ) (cs : List ℕ) (b : ℕ) → b < length cs → (k ≡ suc b → 1 ≤ getD cs b 0) → getD (forgot k cs) b 0 + bit (eqb k (suc b)) ≡ getD cs b 0
 unfolding forgot
@@ -88,6 +83,8 @@ module _ (ws cs : List ℕ) (known : TableTrue ws cs) (i : ℕ) (inside : i < le
       table = record { each = each′ };
       pool = rw len (inPool-set (length cs) ws i w (known .pool) h);
       few = rw (length-set ws i w) (known .few);
+      some = rw len (known .some);
+      most = rw len (known .most);
     };
   }
     where

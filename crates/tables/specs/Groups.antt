@@ -8,9 +8,11 @@ use Rattle.rules.specs.Lists.{allTo}
 use Rattle.rules.specs.Store.{isReserved}
 use Rattle.tables.specs.declared.groups.Sort.{Sort}
 
--- what is expected of a number: the block with that many holders is held, or the slot with that word is not reserved
+-- what is asked of a number; a slot's word can be reserved
 abbrev pub ofSort : Sort → ℕ → Bool
-ofSort Sort.Held n = ltb 0 n
+ofSort (Sort.AtMost m) n = leb n m
+ofSort (Sort.Above m) n = ltb m n
+ofSort Sort.Reserved w = isReserved w
 ofSort Sort.Unreserved w = not (isReserved w)
 
 -- a whole group of n numbers starts at i

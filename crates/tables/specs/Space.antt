@@ -10,7 +10,7 @@ use Rattle.rules.specs.Store.{Geometry, goodGeometry, isHole, holders}
 use Rattle.rules.specs.Attributes.{slotsOf, takesRoom, freedBlocks}
 use Rattle.rules.proofs.PlanLaws.{InPool}
 use Rattle.tables.specs.Tables.{TableTrue}
-use Rattle.tables.specs.Tally.{forgot, owesBy}
+use Rattle.tables.specs.Tally.{forgot, owesBy, InTable}
 
 -- ---- the slots forgotten, one holder less for each
 
@@ -42,6 +42,7 @@ pub record ForgotAll (ws : List ℕ) (n : ℕ) (before after : List ℕ) : Type 
 
 pub record SlotsKnown (ws counts : List ℕ) : Type 0 where
   pub counted : Counted ws counts
+  pub looked-up : InTable ws counts
   pub few : (b : ℕ) → b < length counts → getD counts b 0 ≤ 65536
 
 pub record SlotsSpace (ws : List ℕ) (used freed : ℕ) (before after : List ℕ) : Type 0 where

@@ -31,6 +31,8 @@ pub record TableTrue (ws counts : List ℕ) : Type 0 where
   pub table : Tallied ws counts
   pub pool : InPool (length counts) ws
   pub few : length ws ≤ 65536
+  pub some : 0 < length counts
+  pub most : length counts ≤ 65536
 
 -- one word stored, the table still true
 pub record Stored (ws : List ℕ) (i w : ℕ) (after counts : List ℕ) : Type 0 where

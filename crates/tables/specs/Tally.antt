@@ -1,13 +1,24 @@
 -- The table of holders, filled by one pass over the slot words, and what is read off it.
-use Prim.Native.Nat.{ℕ, zero, suc, pred, _+_, _-_, _/_, _≤_, _<_}
+use Prim.Native.Nat.{ℕ, zero, suc, pred, _+_, _-_, _*_, _/_, _≤_, _<_}
 use mathlib.Core.Path.{_≡_}
-use mathlib.Core.Bool.{Bool, _&&_, _||_}
+use mathlib.Core.Bool.{Bool, true, false, _&&_, _||_, not}
 use mathlib.Core.List.{List, [], _∷_}
 use lib.ListN.{length, getD, set, drop, replicate}
-use lib.Dec.{ltb}
-use Rattle.rules.specs.Lists.{count}
-use Rattle.rules.specs.Store.{isHole, isReserved, holders}
+use lib.Dec.{leb, ltb, eqb}
+use Rattle.rules.specs.Lists.{count, allTo, ceilDiv}
+use Rattle.rules.specs.Store.{Geometry, goodGeometry, wordOf, isHole, isReserved, holders}
+use Rattle.rules.specs.Attributes.{slotsOf}
 use Rattle.rules.proofs.PlanLaws.{InPool}
+use Rattle.tables.specs.declared.tally.Slots.{Slots}
+
+-- no slot is reserved
+abbrev pub noneReserved : List ℕ → Bool
+noneReserved ws = allTo (length ws) (λ i. not (isReserved (getD ws i 0)))
+
+-- what one pass tells of words, for a pool of n blocks
+pub record Scanned (ws : List ℕ) (n : ℕ) (formed unreserved : Bool) : Type 0 where
+  pub formed-is : formed ≡ allTo (length ws) (λ i. leb (getD ws i 0 / 2) n)
+  pub unreserved-is : unreserved ≡ noneReserved ws
 
 -- the counts with one more for block k - 1; a hole's k is 0
 unfoldable pub noted : ℕ → List ℕ → List ℕ
@@ -24,21 +35,83 @@ pub record Forgettable (w : ℕ) (counts : List ℕ) : Type 0 where
   pub pool : w / 2 ≤ length counts
   pub held : 0 < w / 2 → 0 < getD counts (w / 2 - 1) 0
 
+-- a slot with word w can be noted: its block is in the table, and no count grows too large
+pub record Notable (w : ℕ) (counts : List ℕ) : Type 0 where
+  pub pool : w / 2 ≤ length counts
+  pub few : (b : ℕ) → b < length counts → getD counts b 0 ≤ 65536
+
+-- what is known of slots: that they hold blocks, or that there is room for holes to add nothing to
+abbrev pub Known : Slots → Type 0 → Type 0 → Type 0
+Known Slots.Held held room = held
+Known Slots.Mixed held room = room
+
+pub record NotableAs (slots : Slots) (w own : ℕ) (counts : List ℕ) : Type 0 where
+  pub fits : Notable w counts
+  pub known : Known slots (0 < w / 2) (own < length counts)
+
 -- words noted one after the other: their blocks are in the table, and no count grows too large
 pub record NotesFit (ws counts : List ℕ) : Type 0 where
   pub pool : InPool (length counts) ws
   pub few : (b : ℕ) → b < length counts → getD counts b 0 + holders b ws ≤ 65536
+  pub short : length ws ≤ 65536
+
+pub record NotesFitAs (slots : Slots) (ws counts : List ℕ) : Type 0 where
+  pub fits : NotesFit ws counts
+  pub known : Known slots ((i : ℕ) → i < length ws → 0 < getD ws i 0 / 2) (length ws ≤ length counts)
+
+-- a group of no more words than there are blocks
+pub record GroupFits (ws counts : List ℕ) : Type 0 where
+  pub fits : NotesFit ws counts
+  pub room : length ws ≤ length counts
+
+-- the words from place i on are still to be noted, at least one
+pub record NotesFitFrom (ws counts : List ℕ) (i : ℕ) : Type 0 where
+  pub pool : InPool (length counts) ws
+  pub few : (b : ℕ) → b < length counts → getD counts b 0 + holders b (drop i ws) ≤ 65536
+  pub some : i < length ws
 
 -- one holder more for each
 pub record NotedAll (ws before after : List ℕ) : Type 0 where
   pub long : length after ≡ length before
   pub each : (b : ℕ) → b < length before → getD after b 0 ≡ getD before b 0 + holders b ws
 
--- what the pass starts from: the counts zero, the slots few enough to count, their blocks in the table
-pub record Untallied (ws counts : List ℕ) : Type 0 where
-  pub zeros : counts ≡ replicate (length counts) 0
-  pub few : length ws ≤ 65536
+-- the same for n slots from i on, at least one
+pub record NotedFrom (ws : List ℕ) (i n : ℕ) (before after : List ℕ) : Type 0 where
+  pub some : 0 < n
+  pub inside : i + n ≤ length ws
+  pub long : length after ≡ length before
+  pub rest : (b : ℕ) → b < length before → getD after b 0 + holders b (drop (i + n) ws) ≡ getD before b 0 + holders b (drop i ws)
+
+-- ---- file by file
+
+-- every size fits, and the slots past it are 0
+pub record PastZero (g : Geometry) (sizes ws : List ℕ) : Type 0 where
+  pub geometry : goodGeometry g ≡ true
+  pub files : length sizes ≡ g .F
+  pub slots : length ws ≡ g .F * g .S
+  pub fits : (f : ℕ) → f < g .F → getD sizes f 0 ≤ g .S * g .B
+  pub past : (f : ℕ) → f < g .F → allTo (g .S) (λ k. ltb k (ceilDiv (getD sizes f 0) (g .B)) || eqb (wordOf g ws f k) 0) ≡ true
+
+-- what noting the slots of file f starts from
+pub record FileTalliable (g : Geometry) (sizes ws counts : List ℕ) (f : ℕ) : Type 0 where
+  pub past : PastZero g sizes ws
+  pub file : f < g .F
   pub pool : InPool (length counts) ws
+  pub fits : NotesFit (slotsOf g ws f) counts
+
+-- what noting the slots of all files starts from: counts that are zero, and blocks in the table
+pub record Talliable (g : Geometry) (sizes ws counts : List ℕ) : Type 0 where
+  pub past : PastZero g sizes ws
+  pub pool : InPool (length counts) ws
+  pub zeros : counts ≡ replicate (length counts) 0
+
+-- ---- read off the table
+
+-- slots that are looked up in it: their blocks are there, and they are few enough to count
+pub record InTable (ws counts : List ℕ) : Type 0 where
+  pub pool : InPool (length counts) ws
+  pub some : 0 < length counts
+  pub few : length ws ≤ 65536
 
 -- a slot with word w is a hole or holds a shared block, by the counts
 abbrev pub takesBy : List ℕ → ℕ → Bool
@@ -47,6 +120,11 @@ takesBy counts w = isHole w || ltb 1 (getD counts (pred (w / 2)) 0)
 -- a slot with word w owes a block, by the counts (`owes` of Blocks)
 abbrev pub owesBy : List ℕ → ℕ → Bool
 owesBy counts w = takesBy counts w && isReserved w
+
+-- slots of which it may be known that none is reserved
+pub record OwedKnown (unreserved : Bool) (ws counts : List ℕ) : Type 0 where
+  pub looked-up : InTable ws counts
+  pub none : unreserved ≡ true → noneReserved ws ≡ true
 
 -- of the n slots from i on, at least one, `owed` owe a block
 pub record OwedFrom (ws counts : List ℕ) (i n owed : ℕ) : Type 0 where

@@ -1,6 +1,6 @@
 // Whether each file is sound: its size, the slots past it, and the bytes of its last slot past it.
 ghost use mathlib.Core.Path.{_≡_};
-ghost use mathlib.Core.Bool.{_||_};
+ghost use mathlib.Core.Bool.{_&&_, _||_};
 ghost use Prim.Native.Nat.{_+_, _-_, _*_, _/_, _<_, _≤_};
 ghost use lib.ListN.{length, getD};
 ghost use lib.Dec.{eqb, ltb};
@@ -9,33 +9,27 @@ ghost use Rattle.rules.specs.Store.{wordOf, slotByte, soundFile};
 ghost use Rattle.tables.specs.Lent.{geometryOf, before, tables};
 ghost use Rattle.tables.specs.Tables.{Pooled, FileKnown};
 use crate::geometry::Geometry;
+use crate::groups::Sort;
+use crate::groups::all_of_sort;
+
+// Whether a byte is 0 and those before are.
+fn zero_too(before: bool, byte: u8) -> bool
+    ensures { λ r. ⌜ r ≡ (eqb byte 0 && before) ⌝ }
+{
+    (byte == 0) & before
+}
 
 // Whether every byte is 0.
 pub fn zero_bytes(s: &[u8]) -> bool
     ensures { λ r. ⌜ r ≡ allTo (length (now (s .entry))) (λ j. eqb (getD (now (s .entry)) j 0) 0) ⌝ }
 {
+    let mut all = true;
     let mut i = 0;
     while i < s.len() {
-        if s[i] != 0 {
-            return false;
-        }
+        all = zero_too(all, s[i]);
         i += 1;
     }
-    true
-}
-
-// Whether every word is 0.
-fn zero_words(s: &[u32]) -> bool
-    ensures { λ r. ⌜ r ≡ allTo (length (now (s .entry))) (λ j. eqb (getD (now (s .entry)) j 0) 0) ⌝ }
-{
-    let mut i = 0;
-    while i < s.len() {
-        if s[i] != 0 {
-            return false;
-        }
-        i += 1;
-    }
-    true
+    all
 }
 
 // Whether the slots of file f are 0 from slot `from` on.
@@ -46,7 +40,7 @@ fn slots_zero(g: Geometry, words: &[u32], f: usize, from: usize) -> bool
     let at = f * g.slots;
     let start = at + from;
     let end = at + g.slots;
-    zero_words(&words[start..end])
+    all_of_sort(Sort::AtMost(0), &words[start..end])
 }
 
 // Whether the bytes of the slot with word w are 0 from place `from` on. In a hole they are.
@@ -65,7 +59,7 @@ fn tail_zero(g: Geometry, mem: &[u8], w: u32, from: usize) -> bool
 }
 
 // How many slots of b bytes a file of that size has, from one division.
-fn slots_of(size: usize, b: usize) -> usize
+pub fn slots_of(size: usize, b: usize) -> usize
     requires { ⌜ (0 < b) × (size ≤ 4194304) ⌝ }
     ensures { λ r. ⌜ r ≡ ceilDiv size b ⌝ }
 {

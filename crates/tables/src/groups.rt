@@ -1,17 +1,18 @@
-// Tables looked at in groups, where many numbers of one sort are expected. A group is looked at whole, with no way out of its loop, so
-// that several numbers are compared at a time.
+// Tables of numbers looked at flat: a loop has no way out and no branch on a number, so that several are looked at a time. Where many
+// numbers of one sort are expected, a table is looked at in groups.
 ghost use mathlib.Core.Path.{_≡_};
 ghost use mathlib.Core.Bool.{_&&_};
 ghost use Prim.Native.Nat.{_<_, _≤_};
 ghost use lib.ListN.{length, getD};
-ghost use Rattle.rules.specs.Lists.{allTo};
+ghost use Rattle.rules.specs.Lists.{allTo, bit, count};
 ghost use Rattle.tables.specs.Groups.{groupAt, ofSort, groupAll};
 
-// What is expected of a number.
+// What is asked of a number.
 pub enum Sort {
-    // Holders of a block: there is one.
-    Held,
-    // The word of a slot: it is not reserved.
+    AtMost(u32),
+    Above(u32),
+    // The word of a slot: it is reserved, or it is not.
+    Reserved,
     Unreserved,
 }
 
@@ -22,7 +23,7 @@ impl Group {
 }
 
 // Whether a whole group of n numbers starts at i.
-fn group_at(i: usize, n: usize) -> bool
+pub fn group_at(i: usize, n: usize) -> bool
     requires { ⌜ i ≤ n ⌝ }
     ensures { λ r. ⌜ r ≡ groupAt i n ⌝ }
 {
@@ -36,23 +37,22 @@ fn of_sort(sort: Sort, n: u32) -> bool
     ensures { λ r. ⌜ r ≡ ofSort sort n ⌝ }
 {
     match sort {
-        Sort::Held => 0 < n,
+        Sort::AtMost(most) => n <= most,
+        Sort::Above(least) => least < n,
+        Sort::Reserved => n % 2 == 1,
         Sort::Unreserved => n % 2 != 1,
     }
 }
 
 // Whether n is of that sort and those before are.
-fn of_sort_too(sort: Sort, before: bool, n: u32) -> bool
+pub fn of_sort_too(sort: Sort, before: bool, n: u32) -> bool
     ensures { λ r. ⌜ r ≡ (ofSort sort n && before) ⌝ }
 {
-    if of_sort(sort, n) {
-        return before;
-    }
-    false
+    of_sort(sort, n) & before
 }
 
 // Whether each number is of that sort.
-fn all_of_sort(sort: Sort, numbers: &[u32]) -> bool
+pub fn all_of_sort(sort: Sort, numbers: &[u32]) -> bool
     ensures { λ r. ⌜ r ≡ allTo (length (now (numbers .entry))) (λ i. ofSort sort (getD (now (numbers .entry)) i 0)) ⌝ }
 {
     let mut all = true;
@@ -62,6 +62,30 @@ fn all_of_sort(sort: Sort, numbers: &[u32]) -> bool
         i += 1;
     }
     all
+}
+
+// 1 where n is of that sort, else 0.
+pub fn bit_of_sort(sort: Sort, n: u32) -> u32
+    ensures { λ r. ⌜ r ≡ bit (ofSort sort n) ⌝ }
+{
+    if of_sort(sort, n) {
+        return 1;
+    }
+    0
+}
+
+// How many numbers are of that sort. The sum has 32 bits, as they have.
+pub fn count_of_sort(sort: Sort, numbers: &[u32]) -> usize
+    requires { ⌜ length (now numbers) ≤ 65536 ⌝ }
+    ensures { λ r. ⌜ r ≡ count (ofSort sort) (now (numbers .entry)) ⌝ }
+{
+    let mut n: u32 = 0;
+    let mut i = 0;
+    while i < numbers.len() {
+        n += bit_of_sort(sort, numbers[i]);
+        i += 1;
+    }
+    n as usize
 }
 
 // Whether a group starts at i, and each of its numbers is of that sort.

@@ -4,9 +4,10 @@ ghost use Rattle.tables.specs.Lent.{geometryOf};
 ghost use Rattle.tables.specs.Tally.{Forgettable};
 ghost use Rattle.tables.specs.Space.{Counted, ForgotLast, ForgotAll, SlotsKnown, SlotsSpace, SpaceKnown, SpaceIs};
 use crate::geometry::Geometry;
-use crate::tally::count_above_zero;
+use crate::groups::Sort;
+use crate::groups::count_of_sort;
+use crate::pool::owed_slots;
 use crate::tally::note_all;
-use crate::tally::owed_slots;
 use crate::words::forget;
 
 // Slots that hold a block or are reserved; and blocks that no other slot holds, with the slots that owe one.
@@ -50,7 +51,7 @@ fn slots_space(words: &[u32], counts: &mut [u32]) -> Space
     requires { ⌜ SlotsKnown (now words) (now counts) ⌝ }
     ensures { λ r. ⌜ SlotsSpace (now (words .entry)) (r .used) (r .freed) (now (counts .entry)) (now (counts .exit)) ⌝ }
 {
-    let used = count_above_zero(words);
+    let used = count_of_sort(Sort::Above(0), words);
     let owed = owed_slots(words, counts);
     let alone = forget_all(words, counts);
     note_all(words, counts);

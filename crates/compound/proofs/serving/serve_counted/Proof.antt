@@ -1,42 +1,42 @@
 use mathlib.Core.Path.{sym, ap, _∙_}
 use Rattle.xdr.proofs.EncodeLaws.{length-u64}
 use Rattle.wire.specs.Decoded.{ofHeader}
-use Rattle.compound.proofs.ServeLaws.{refused-3, refused-4, refused-5, refused-6, serves, survey-unsound, survey-sound, table-long, serves-known, tag-short}
+use Rattle.compound.proofs.ServeLaws.{refused-3, refused-4, refused-5, refused-6, serves, judged-unsound, judged-sound, table-long, serves-known, tag-short}
 use borrow.Author.Needs.{needs}
 use Rattle.compound.proofs.serving.serve_counted.Statement.{statement}
 use Rattle.compound.proofs.serving.serve_counted.Tie as tie
 
 returns : tie.Need-returns
 returns c =
-    let y = c .before .before .before .before .before in
+    let y = c .before .before .before .before in
     let s = y .before .before .before .before .before .before .before .before .before .before .before in
     let t = s .pre in
-    refused-3 _ _ _ _ _ (t .shaped .geometry) (t .shaped .lengths) (length-u64 _) (survey-unsound t (y .survey-tables .ensures) (c .before .if1 .taken)) _ (c .refused .ensures)
+    refused-3 _ _ _ _ _ (t .shaped .geometry) (t .shaped .lengths) (length-u64 _) (judged-unsound t (y .judge-tables .ensures) (c .before .if1 .taken)) _ (c .refused .ensures)
 
 returns-2 : tie.Need-returns-2
 returns-2 c =
-    let y = c .before .before .before .before .before .before in
+    let y = c .before .before .before .before .before in
     let s = y .before .before .before .before .before .before .before .before .before .before .before in
     let t = s .pre in
-    refused-4 _ _ _ _ _ (t .shaped .geometry) (t .shaped .lengths) (length-u64 _) (survey-sound t (y .survey-tables .ensures) (c .before .before .if1 .left))
+    refused-4 _ _ _ _ _ (t .shaped .geometry) (t .shaped .lengths) (length-u64 _) (judged-sound t (y .judge-tables .ensures) (c .before .before .if1 .left))
     (c .before .if2 .taken) _ (c .refused2 .ensures)
 
 returns-3 : tie.Need-returns-3
 returns-3 c =
-    let y = c .before .before .before .before .before .before .before in
+    let y = c .before .before .before .before .before .before in
     let s = y .before .before .before .before .before .before .before .before .before .before .before in
     let t = s .pre in
-    refused-5 _ _ _ _ _ (t .shaped .geometry) (t .shaped .lengths) (length-u64 _) (survey-sound t (y .survey-tables .ensures) (c .before .before .before .if1 .left))
+    refused-5 _ _ _ _ _ (t .shaped .geometry) (t .shaped .lengths) (length-u64 _) (judged-sound t (y .judge-tables .ensures) (c .before .before .before .if1 .left))
     (c .before .before .if2 .left) (c .before .if3 .taken) _ (c .refused3 .ensures)
 
 serve-operations-requires : tie.Need-serve-operations-requires
 serve-operations-requires c κs =
     let d = c .before .before .before .before .before .before in
     let k = d .before .before in
-    let y = k .before .before .before .before .before .before .before in
+    let y = k .before .before .before .before .before .before in
     let s = y .before .before .before .before .before .before .before .before .before .before .before in
     let t = s .pre in (
-      serves-known t (y .survey-tables .ensures) (k .before .before .before .if1 .left) (table-long t (y .survey-tables .ensures) (y .survey-tables .kept .1 .1 .1 .1 .0))
+      serves-known t (y .judge-tables .ensures) (k .before .before .before .if1 .left) (table-long t (y .judge-tables .ensures) (y .judge-tables .kept .1 .1 .1 .1 .0))
           (k .before .if3 .left),
       tag-short _ (sym (k .header .ensures) ∙ ap (ofHeader (s .args .s .now)) (d .h .given .1)),
     )
@@ -46,19 +46,19 @@ returns-4 c =
     let o = c .before .before .before .before .before .before .before .before .before .before in
     let d = o .before .before .before .before .before .before .before in
     let k = d .before .before in
-    let y = k .before .before .before .before .before .before .before in
+    let y = k .before .before .before .before .before .before in
     let s = y .before .before .before .before .before .before .before .before .before .before .before in
     let t = s .pre in
-    serves _ _ _ _ _ (t .shaped .geometry) (t .shaped .lengths) (length-u64 _) (survey-sound t (y .survey-tables .ensures) (k .before .before .before .if1 .left))
+    serves _ _ _ _ _ (t .shaped .geometry) (t .shaped .lengths) (length-u64 _) (judged-sound t (y .judge-tables .ensures) (k .before .before .before .if1 .left))
     (k .before .before .if2 .left) (k .before .if3 .left) (sym (k .header .ensures) ∙ ap (ofHeader (s .args .s .now)) (d .h .given .1)) (o .serve-operations .ensures)
 
 returns-5 : tie.Need-returns-5
 returns-5 c =
     let k = c .before .before .before .before in
-    let y = k .before .before .before .before .before .before .before in
+    let y = k .before .before .before .before .before .before in
     let s = y .before .before .before .before .before .before .before .before .before .before .before in
     let t = s .pre in
-    refused-6 _ _ _ _ _ (t .shaped .geometry) (t .shaped .lengths) (length-u64 _) (survey-sound t (y .survey-tables .ensures) (k .before .before .before .if1 .left))
+    refused-6 _ _ _ _ _ (t .shaped .geometry) (t .shaped .lengths) (length-u64 _) (judged-sound t (y .judge-tables .ensures) (k .before .before .before .if1 .left))
     (k .before .before .if2 .left) (k .before .if3 .left) (sym (k .header .ensures) ∙ ap (ofHeader (s .args .s .now)) (c .before .before .p .given .1)) _ (c .bad-header .ensures)
 
 pub serve-counted-spec : {M : Type 1} → statement M

@@ -8,7 +8,7 @@ use Rattle.store.proofs.plan.own_slot.Tie as tie
 takes-block-requires : tie.Need-takes-block-requires
 takes-block-requires c κs =
     let s = c .before .before .before .before in
-    s .pre .counted .pool (s .args .i)
+    (s .pre .counted .pool (s .args .i), s .pre .counted .some)
 
 returns : tie.Need-returns
 returns c =

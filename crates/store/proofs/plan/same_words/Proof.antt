@@ -9,7 +9,7 @@ use borrow.Author.Needs.{needs}
 use borrow.Author.Tests.{eq-eqb, ne-eqb}
 use Rattle.rules.specs.Lists.{allTo}
 use Rattle.xdr.proofs.BoolLaws.{and-both}
-use Rattle.tables.proofs.TallyLaws.{allTo-fails}
+use Rattle.tables.proofs.PoolLaws.{allTo-fails}
 use Rattle.store.proofs.plan.same_words.Statement.{statement}
 use Rattle.store.proofs.plan.same_words.Tie as tie
 

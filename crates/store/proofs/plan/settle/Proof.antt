@@ -22,14 +22,14 @@ returns c =
     let s = w .before .before .before .before .before .before in
     planned-same (s .args .words .now) (s .args .old .now) (s .args .i) (s .pre .undoable .inside) (sym (w .same-words .ensures) ∙ c .if1 .taken) _ (s .pre .undoable .counted) (s .pre .fitted)
 
-judge-requires : tie.Need-judge-requires
-judge-requires c κs = c .before .before .before .before .before .before .before .before .before .pre .undoable .counted
+fits-pool-requires : tie.Need-fits-pool-requires
+fits-pool-requires c κs = c .before .before .before .before .before .before .before .before .before .pre .undoable .counted
 
 returns-2 : tie.Need-returns-2
 returns-2 c =
     let j = c .before in
     let s = j .before .before .before .before .before .before .before .before .before .before in
-    planned-kept (s .pre .undoable .counted) (sym (j .judge .ensures) ∙ c .if2 .taken)
+    planned-kept (s .pre .undoable .counted) (sym (j .fits-pool .ensures) ∙ c .if2 .taken)
 
 undo-requires : tie.Need-undo-requires
 undo-requires c κs = c .before .before .before .before .before .before .before .before .before .before .before .before .before .pre .undoable
@@ -39,12 +39,12 @@ returns-3 c =
     let u = c .before .before .before .before in
     let f = u .before .before .before in
     let j = f .before in
-    planned-back (sym (j .judge .ensures) ∙ f .if2 .left) (u .undo .kept .1 .0) (u .undo .ensures .words-are) (u .undo .ensures .counted)
+    planned-back (sym (j .fits-pool .ensures) ∙ f .if2 .left) (u .undo .kept .1 .0) (u .undo .ensures .words-are) (u .undo .ensures .counted)
 
 pub settle-spec : {M : Type 1} → statement M
 settle-spec =
     tie.close
     (tie.spec
     add-end (λ c. search needs) (λ c. search needs) (λ c. search needs) part-same-words-end same-words-requires (λ c. search needs) returns
-    judge-requires (λ c. search needs) (λ c. search needs) returns-2
+    fits-pool-requires (λ c. search needs) (λ c. search needs) returns-2
     undo-requires (λ c. search needs) (λ c. search needs) returns-3)

@@ -6,16 +6,18 @@ use Rattle.tables.proofs.sound.survey.Statement.{statement}
 use Rattle.tables.proofs.sound.survey.Tie as tie
 
 returns : tie.Need-returns
-returns c = survey-refused-1 _ _ (sym (c .before .good2 .ensures) ∙ not-true _ (c .if1 .taken))
+returns c = rw (c .refused .ensures) (survey-refused-1 _ _ (sym (c .before .before .good2 .ensures) ∙ not-true _ (c .before .if1 .taken)))
 
 good-lengths-requires : tie.Need-good-lengths-requires
 good-lengths-requires c κs = sym (c .before .good2 .ensures) ∙ not-false _ (c .if1 .left)
 
 returns-2 : tie.Need-returns-2
 returns-2 c =
-    let l = c .before in
+    let i = c .before in
+    let l = i .before in
     let t = l .before in
-    survey-refused-2 _ _ (sym (t .before .good2 .ensures) ∙ not-false _ (t .if1 .left)) (sym (l .good-lengths .ensures) ∙ not-true _ (c .if2 .taken))
+    rw (c .refused2 .ensures)
+    (survey-refused-2 _ _ (sym (t .before .good2 .ensures) ∙ not-false _ (t .if1 .left)) (sym (l .good-lengths .ensures) ∙ not-true _ (i .if2 .taken)))
 
 survey-shaped-requires : tie.Need-survey-shaped-requires
 survey-shaped-requires c κs =
@@ -30,6 +32,6 @@ pub survey-spec : {M : Type 1} → statement M
 survey-spec =
     tie.close
     (tie.spec
-    (λ c κs. search needs) returns
-    good-lengths-requires returns-2
+    (λ c κs. search needs) (λ c κs. search needs) returns
+    good-lengths-requires (λ c κs. search needs) returns-2
     survey-shaped-requires (λ c. search needs))

@@ -2,10 +2,8 @@ use Prim.Native.Nat.{ℕ, _+_, _-_, _≤_, _<_}
 use mathlib.Core.Path.{_≡_, refl, _∙_}
 use native.Mathlib.Omega.{arith}
 use lib.ListN.{length, drop, getD}
-use borrow.Author.Needs.{needs}
 use Rattle.rules.specs.Store.{holds, holders}
 use Rattle.rules.proofs.CountLaws.{count-end}
-use Rattle.tables.proofs.TallyLaws.{noted-turn}
 use Rattle.tables.proofs.tally.note_all.Statement.{statement}
 use Rattle.tables.proofs.tally.note_all.Tie as tie
 
@@ -16,29 +14,28 @@ Inv-loop words counts₀ i₀ counts i =
 abbrev μ-loop : tie.MeasureT-loop
 μ-loop words counts₀ i₀ counts i = length words - i
 
-loop-holds : tie.Need-loop-holds Inv-loop μ-loop
-loop-holds c = (omega arith, (refl, λ b h. refl))
+note-from-requires : tie.Need-note-from-requires Inv-loop μ-loop
+note-from-requires c κs =
+    let l = c .before .before in
+    let s = l .before .before .before in
+    record {
+      pool = rw (l .loop .inv .1 .0) (s .pre .pool);
+      few = λ b h. omega (arith, l .loop .inv .1 .1 b h, s .pre .few b (omega arith));
+      some = c .before .loop-test .taken;
+    }
 
-note-requires : tie.Need-note-requires Inv-loop μ-loop
-note-requires c κs =
-    let l = c .before .before .before in
-    let s = l .before .before .before in (
-      omega (arith, s .pre .pool (l .loop .i)),
-      λ b h. omega (arith, l .loop .inv .1 .1 b h, s .pre .few b (omega arith)),
-    )
+add-i : tie.Need-add-i Inv-loop μ-loop
+add-i c = omega (arith, c .before .before .note-from .ensures .inside)
+
+loop-less : tie.Need-loop-less Inv-loop μ-loop
+loop-less c = omega (arith, c .before .before .note-from .ensures .some, c .before .before .note-from .ensures .inside)
 
 loop-again : tie.Need-loop-again Inv-loop μ-loop
 loop-again c =
     let n = c .before .before in
-    let l = n .before .before .before .before in
-    let ws = l .before .before .before .args .words .now in
-    let same : length (n .note .last .0) ≡ length (l .loop .counts) = n .note .kept .0 in (
-      omega arith,
-      (
-        same ∙ l .loop .inv .1 .0,
-        λ b h. rw (n .note .ensures) (noted-turn ws (l .loop .counts) (l .loop .i) b (omega arith) (omega arith) ∙ l .loop .inv .1 .1 b (omega arith)),
-      ),
-    )
+    let l = n .before .before .before in
+    let t = n .note-from .ensures in
+    (t .inside, (t .long ∙ l .loop .inv .1 .0, λ b h. t .rest b (omega (arith, t .long)) ∙ l .loop .inv .1 .1 b (omega (arith, t .long))))
 
 same-length : tie.Need-same-length Inv-loop μ-loop
 same-length c = c .before .loop .inv .1 .0
@@ -56,5 +53,5 @@ pub note-all-spec : {M : Type 1} → statement M
 note-all-spec =
     tie.close
     (tie.spec
-    Inv-loop μ-loop loop-holds (λ c. search needs) (λ c. omega arith) note-requires (λ c. omega arith) (λ c. omega arith) loop-again
+    Inv-loop μ-loop (λ c. (omega arith, (refl, λ b h. refl))) note-from-requires add-i loop-less loop-again
     same-length returns)

@@ -12,7 +12,7 @@ note-requires : tie.Need-note-requires
 note-requires c κs =
     let k = c .before .before .before in
     let s = k .before .before .before .before .before in
-    (rw (k .forget .kept .0) (s .pre .1 .1), rw (k .forget .ensures) (few-holders _ _ (s .pre .0) (s .args .i) (s .pre .1 .0)))
+    record { pool = rw (k .forget .kept .0) (s .pre .1 .1); few = rw (k .forget .ensures) (few-holders _ _ (s .pre .0) (s .args .i) (s .pre .1 .0)) }
 
 returns : tie.Need-returns
 returns c =

@@ -1,16 +1,16 @@
 -- Laws on the table of holders filled file by file: slots past a file's size hold no block.
-use Prim.Native.Nat.{ℕ, suc, _+_, _-_, _*_, _/_, _≤_, _<_}
-use mathlib.Core.Path.{_≡_, refl, sym, ap, _∙_}
-use mathlib.Core.Bool.{Bool, true, false, _||_}
+use Prim.Native.Nat.{ℕ, suc, _+_, _-_, _*_, _≤_, _<_}
+use mathlib.Core.Path.{_≡_, refl, ap, _∙_}
+use mathlib.Core.Bool.{Bool, false, _||_}
 use mathlib.Core.List.{List}
 use native.Mathlib.Nat.{mul-le-mul-right}
 use native.Mathlib.Decide.{decLt}
 use native.Mathlib.Omega.{arith}
 use borrow.Author.Tests.{ne-eqb, eqb-true, le-ltb}
 use lib.ListN.{length, getD, take, drop, length-take, getD-replicate, List·getD-eq-default}
-use lib.Seq.{getD-take, getD-drop, take-take, drop-drop}
+use lib.Seq.{getD-take, getD-drop, take-take}
 use lib.Dec.{ltb, eqb}
-use Rattle.rules.specs.Lists.{count, allTo, ceilDiv}
+use Rattle.rules.specs.Lists.{count, ceilDiv}
 use Rattle.rules.specs.Store.{Geometry, holds, holders, wordOf}
 use Rattle.rules.specs.Attributes.{slotsOf}
 use Rattle.tables.specs.Tables.{Tallied}
@@ -45,9 +45,6 @@ module _ {g : Geometry} {sizes ws : List ℕ} (known : PastZero g sizes ws) (f :
 
   pub block-some : 0 < g .B
   block-some = block-pos isGood
-
-  pub size-there : f < length sizes
-  size-there = omega (arith, known .files, file)
 
   pub size-small : getD sizes f 0 ≤ 4194304
   size-small = omega (arith, known .fits f file, file-most g isGood)

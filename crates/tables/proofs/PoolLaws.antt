@@ -20,7 +20,6 @@ use Rattle.tables.specs.Groups.{ofSort, groupAt, groupAll}
 use Rattle.rules.proofs.CountLaws.{sumTo-ext, count-drop, count-parts, count-none-at, count-most}
 use Rattle.rules.proofs.NeedLaws.{lowestFree-free, scan-ends, used-to}
 use Rattle.rules.proofs.BoundLaws.{count-right, owed-reserved, need-bound}
-use Rattle.xdr.proofs.BoolLaws.{and-false}
 use Rattle.rules.proofs.SoundLaws.{allTo-at}
 use Rattle.rules.proofs.PlanLaws.{InPool}
 use Rattle.tables.proofs.GroupLaws.{group-room, group-inside, group-each}

@@ -8,8 +8,8 @@ use native.Mathlib.Nat.{mul-le-mul-right}
 use native.Mathlib.Numerals.{add-one, sub-one}
 use native.Mathlib.Omega.{arith}
 use borrow.Author.Tests.{eqb-true, eqb-false, eq-eqb, ne-eqb, lt-ltb}
-use lib.ListN.{length, getD, set, take, drop, drop-of-length-le, length-take}
-use lib.Seq.{ext-getD, getD-set-same, getD-set-other, getD-drop, drop-cons}
+use lib.ListN.{length, getD, set, drop, drop-of-length-le, length-take}
+use lib.Seq.{ext-getD, getD-set-same, getD-set-other, drop-cons}
 use lib.Dec.{ltb, eqb, eqb·suc-suc, eqb·suc-zero}
 use Rattle.rules.specs.Lists.{bit, count, countTo}
 use Rattle.rules.specs.Store.{Geometry, isReserved, holds, holders, blockBound, owes}

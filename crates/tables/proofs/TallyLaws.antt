@@ -1,27 +1,24 @@
 -- Laws on the table of holders: how slots are noted in it, one by one, in groups and file by file.
 use Prim.Native.Nat.{ℕ, zero, suc, pred, _+_, _-_, _*_, _/_, _≤_, _<_}
 use mathlib.Core.Path.{_≡_, refl, sym, ap, _∙_}
-use mathlib.Core.Bool.{Bool, true, false, cond, true≢false}
+use mathlib.Core.Bool.{Bool, true, false, cond}
 use mathlib.Core.List.{List}
 use mathlib.Core.Logic.{_≢_}
 use native.Mathlib.Nat.{add-zero}
 use native.Mathlib.Decide.{decLt}
 use native.Mathlib.Numerals.{add-one, sub-one}
 use native.Mathlib.Omega.{arith}
-use borrow.Author.Tests.{eq-eqb, ne-eqb, eqb-true, eqb-false, lt-ltb, le-ltb, ltb-true, leb-true, le-leb, lt-leb}
-use lib.ListN.{length, length-set, length-take, getD, set, take, drop, getD-replicate, List·getD-eq-default}
-use lib.Seq.{getD-set-same, getD-set-other, set-getD, getD-take, getD-drop, take-take, drop-drop}
+use borrow.Author.Tests.{eq-eqb, ne-eqb, eqb-true, eqb-false, lt-ltb, le-ltb, ltb-true, le-leb, lt-leb}
+use lib.ListN.{length, length-set, length-take, getD, set, take, drop, List·getD-eq-default}
+use lib.Seq.{getD-set-same, getD-set-other, set-getD, getD-take, getD-drop, drop-drop}
 use lib.Dec.{leb, ltb, eqb, eqb·suc-zero}
 use Rattle.rules.specs.Lists.{bit, count, allTo}
-use Rattle.rules.specs.Store.{Geometry, isHole, holds, holders}
-use Rattle.rules.specs.Attributes.{slotsOf}
-use Rattle.tables.specs.Tables.{Tallied}
+use Rattle.rules.specs.Store.{isHole, holds, holders}
 use Rattle.tables.specs.Tally.{noted, Known, GroupFits, NotesFitFrom, NotedAll, NotedFrom}
 use Rattle.tables.specs.declared.tally.Slots.{Slots}
 use Rattle.tables.specs.Groups.{groupAt}
 use Rattle.rules.proofs.CountLaws.{count-drop, count-parts, count-all-at}
 use Rattle.rules.proofs.BoundLaws.{holders-held}
-use Rattle.rules.proofs.SoundLaws.{allTo-at}
 use Rattle.rules.proofs.PlanLaws.{InPool}
 use Rattle.tables.proofs.GroupLaws.{allTo-ext, group-room}
 

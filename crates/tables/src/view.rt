@@ -5,7 +5,6 @@ ghost use Rattle.rules.specs.Calls.{slotRefusal, KindPromise};
 ghost use Rattle.tables.specs.View.{PlacePromise, ViewPromise};
 use crate::files::zero_bytes;
 use crate::geometry::Geometry;
-use crate::geometry::good_lengths;
 use crate::sound::Surveyed;
 use crate::sound::survey;
 

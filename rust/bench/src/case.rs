@@ -1,8 +1,10 @@
 //! What is timed.
 
 use compare::wire::{self, Transfer, ZEROS};
-use compare::{Random, Second, Server};
-use second::{Geometry, Store, REPLY_MIN};
+use compare::Random;
+use second::{Geometry, Store};
+
+use crate::stores;
 
 pub const SMALLEST: Geometry = geometry(1, 1, 1, 512);
 /// The frames program's.
@@ -17,7 +19,7 @@ const CLONED: u64 = 64;
 /// The bitmap of all attributes that there are.
 const ATTRIBUTES: [u32; 3] = [0x11, 0x2000, 0x6000];
 /// The bytes of a WRITE.
-const WRITTEN: u64 = 100;
+pub const WRITTEN: u64 = 100;
 
 pub const VERIFIER: [u8; 8] = [7; 8];
 
@@ -37,19 +39,17 @@ pub enum Kind {
     GetAttr,
     Allocate,
     Clone,
-    Soundness,
-    CountBlocks,
+    Survey,
 }
 
 impl Kind {
-    pub const ALL: [Kind; 7] = [
+    pub const ALL: [Kind; 6] = [
         Kind::Write,
         Kind::ReadPlus,
         Kind::GetAttr,
         Kind::Allocate,
         Kind::Clone,
-        Kind::Soundness,
-        Kind::CountBlocks,
+        Kind::Survey,
     ];
 
     pub fn name(self) -> &'static str {
@@ -59,8 +59,7 @@ impl Kind {
             Kind::GetAttr => "GETATTR of all five",
             Kind::Allocate => "ALLOCATE",
             Kind::Clone => "CLONE of 64 written slots",
-            Kind::Soundness => "soundness",
-            Kind::CountBlocks => "count_blocks",
+            Kind::Survey => "survey",
         }
     }
 }
@@ -81,77 +80,44 @@ pub enum Work {
         request: Vec<u8>,
         back: Option<Vec<u8>>,
     },
-    Soundness,
-    CountBlocks,
+    Survey,
 }
 
 impl Case {
     pub fn new(kind: Kind, geometry: Geometry, calls: usize) -> Case {
+        let store = match kind {
+            Kind::Clone => written(&geometry, CLONED),
+            _ => stores::in_order(&geometry, 2, geometry.blocks.div_ceil(2)),
+        };
+        Case::of(kind, geometry, store, calls)
+    }
+
+    /// The same on another store.
+    pub fn of(kind: Kind, geometry: Geometry, store: Store, calls: usize) -> Case {
         let work = match kind {
             Kind::Write => writes(&geometry, calls),
             Kind::ReadPlus => reads(&geometry, calls),
             Kind::GetAttr => compounds(&geometry, calls, |_| wire::getattr(&ATTRIBUTES)),
             Kind::Allocate => allocates(&geometry, calls),
             Kind::Clone => clones(&geometry, calls),
-            Kind::Soundness => Work::Soundness,
-            Kind::CountBlocks => Work::CountBlocks,
+            Kind::Survey => Work::Survey,
         };
-        let store = match kind {
-            Kind::Clone => written(&geometry, CLONED),
-            _ => sparse(&geometry),
-        };
-        Case::checked(geometry, store, calls, work)
-    }
-
-    /// Every compound must end in OK.
-    pub fn checked(geometry: Geometry, store: Store, calls: usize, work: Work) -> Case {
-        let case = Case {
+        Case {
             geometry,
             store,
             calls,
             work,
-        };
-        match &case.work {
-            Work::Serve(requests) => case.check(requests),
-            Work::Again { request, back } => case.check([request].into_iter().chain(back)),
-            Work::Soundness | Work::CountBlocks => {}
-        }
-        case
-    }
-
-    fn check<'a>(&self, requests: impl IntoIterator<Item = &'a Vec<u8>>) {
-        let mut store = self.store.clone();
-        let mut reply = vec![0; REPLY_MIN];
-        for request in requests {
-            let answer = Second.serve(&self.geometry, &mut store, &VERIFIER, request, &mut reply);
-            assert_eq!((answer.number, &reply[..4]), (0, &[0; 4][..]));
         }
     }
-}
-
-/// Files of full size. Every second slot holds a block, until half of the pool is used.
-fn sparse(geometry: &Geometry) -> Store {
-    let mut store = Store::empty(geometry);
-    store.sizes.fill(geometry.slots * geometry.block_size);
-    store.mem.fill(1);
-    let half = 1..=geometry.blocks.div_ceil(2) as u32;
-    for (word, block) in store.words.iter_mut().step_by(2).zip(half) {
-        *word = 2 * block;
-    }
-    store
 }
 
 /// The first file has that many written slots, the others are empty.
 fn written(geometry: &Geometry, slots: u64) -> Store {
-    let mut store = Store::empty(geometry);
+    let mut store = stores::in_order(geometry, 1, slots);
+    store.sizes.fill(0);
     store.sizes[0] = slots * geometry.block_size;
-    store.mem.fill(1);
-    for (word, block) in store.words.iter_mut().zip(1..=slots as u32) {
-        *word = 2 * block;
-    }
     store
 }
-
 /// A compound of PUTFH and one operation for each call.
 fn compounds(
     geometry: &Geometry,

@@ -63,7 +63,9 @@ pub const ALL: [Image; 6] = [
 
 impl Timed for Image {
     const TITLE: &'static str = "COPY";
+    const TABLE: &'static str = "copies";
     const WORD: &'static str = "copy";
+    const BLOCKS: bool = true;
 
     fn name(&self) -> &'static str {
         self.name
@@ -78,7 +80,12 @@ impl Timed for Image {
             request: copied(self.from),
             back: Some(back),
         };
-        Case::checked(self.geometry, self.store(), CALLS, work)
+        Case {
+            geometry: self.geometry,
+            store: self.store(),
+            calls: CALLS,
+            work,
+        }
     }
 }
 

@@ -1,10 +1,12 @@
-//! Times the proved server and the program in plain Rust on the same recordings, or writes a
-//! recording of frames.
+//! Times the proved server and three in plain Rust on the same recordings, or writes a recording of
+//! frames.
 //!
-//! `bench` prints the tables, `bench picks [BEFORE]` that of the WRITEs that take free blocks and `bench
-//! copies [BEFORE]` that of the COPYs of a sparse file, both beside the same program linked with
-//! another archive, `bench client` that of the clients, `bench record LINES` that many requests,
-//! `bench pairs PAIRS` that many of the same requests, each with its answer behind it.
+//! `bench` prints the tables. `bench serve [BEFORE]` prints that of served compounds, `bench survey
+//! [BEFORE]` that of the survey, `bench picks [BEFORE]` that of the WRITEs that take free blocks and
+//! `bench copies [BEFORE]` that of the COPYs of a sparse file, all beside the same program linked with
+//! another archive; `bench client` that of the clients. `bench compare [SEEDS [FIRST_SEED]]` compares
+//! those that are written for speed with the third in plain Rust. `bench record LINES` writes that
+//! many requests, `bench pairs PAIRS` that many of the same requests, each with its answer behind it.
 
 mod case;
 mod client;
@@ -12,14 +14,17 @@ mod copies;
 mod measure;
 mod pick;
 mod record;
+mod serve;
+mod stores;
+mod survey;
 
 use std::io;
 use std::process::ExitCode;
 
-use compare::program::with_stack;
-use copies::Image;
+use bench::{Good, Lean};
+use compare::program::{self, with_stack, Named};
+use compare::Second;
 use measure::Timed;
-use pick::Pick;
 use record::Written;
 
 fn main() -> io::Result<ExitCode> {
@@ -28,27 +33,52 @@ fn main() -> io::Result<ExitCode> {
     match words[..] {
         [] => with_stack(measure::tables),
         ["client"] => with_stack(client::tables),
-        ["picks"] => with_stack(|| measure::timed(&pick::ALL, None)),
-        ["picks", before] => with_stack(|| measure::timed(&pick::ALL, Some(before))),
-        ["copies"] => with_stack(|| measure::timed(&copies::ALL, None)),
-        ["copies", before] => with_stack(|| measure::timed(&copies::ALL, Some(before))),
-        [Pick::WORD, number] => return Ok(one(&pick::ALL, number)),
-        [Image::WORD, number] => return Ok(one(&copies::ALL, number)),
         ["record", lines] => return record(lines, Written::Request),
         ["pairs", pairs] => return record(pairs, Written::RequestAndAnswer),
-        _ => return Ok(usage()),
+        ["compare", ..] => return Ok(compare()),
+        _ => {
+            let is_table = table(&serve::ALL, &words)
+                || table(&survey::ALL, &words)
+                || table(&pick::ALL, &words)
+                || table(&copies::ALL, &words);
+            if !is_table {
+                return Ok(usage());
+            }
+        }
     }
     Ok(ExitCode::SUCCESS)
 }
 
-/// One run of the case with that number.
-fn one<T: Timed + Sync>(cases: &[T], number: &str) -> ExitCode {
-    let number = number.parse::<usize>().ok();
-    let Some(case) = number.and_then(|number| cases.get(number)) else {
-        return usage();
-    };
-    with_stack(|| measure::one(case));
+/// Stops at the first that differs.
+fn compare() -> ExitCode {
+    for fast in [Named::server("good", &Good), Named::server("lean", &Lean)] {
+        println!("{}", fast.name);
+        let programs = [fast, Named::server("second", &Second)];
+        let code = program::main(programs, std::env::args().skip(2));
+        if code != ExitCode::SUCCESS {
+            return code;
+        }
+    }
     ExitCode::SUCCESS
+}
+
+/// Prints a table or one of its runs; whether the arguments ask for that.
+fn table<T: Timed + Sync>(cases: &[T], words: &[&str]) -> bool {
+    match *words {
+        [table] if table == T::TABLE => with_stack(|| measure::timed(cases, None)),
+        [table, before] if table == T::TABLE => {
+            with_stack(|| measure::timed(cases, Some(before)));
+        }
+        [word, number] if word == T::WORD => {
+            let number = number.parse::<usize>().ok();
+            let Some(case) = number.and_then(|number| cases.get(number)) else {
+                return false;
+            };
+            with_stack(|| measure::one(case));
+        }
+        _ => return false,
+    }
+    true
 }
 
 fn record(requests: &str, written: Written) -> io::Result<ExitCode> {
@@ -60,6 +90,6 @@ fn record(requests: &str, written: Written) -> io::Result<ExitCode> {
 }
 
 fn usage() -> ExitCode {
-    eprintln!("arguments: none, or picks [BEFORE], or copies [BEFORE], or client, or record LINES, or pairs PAIRS");
+    eprintln!("arguments: none, or serve, survey, picks or copies [BEFORE], or client, or compare [SEEDS [FIRST_SEED]], or record LINES, or pairs PAIRS");
     ExitCode::from(2)
 }

@@ -1,29 +1,41 @@
-//! Both servers in turn, several runs of each.
+//! All servers in turn, several runs of each.
 
+use std::fmt::Display;
 use std::hint::black_box;
 use std::process::Command;
 use std::time::{Duration, Instant};
 
+use bench::{Good, Lean};
 use compare::{Proved, Second, Server};
 use second::{Geometry, Store, REPLY_MIN};
 
 use crate::case::{self, Case, Kind, Work, VERIFIER};
 
-const SERVERS: [&dyn Server; 2] = [&Proved, &Second];
+const SERVERS: [&dyn Server; 4] = [&Proved, &Good, &Lean, &Second];
+
+/// The columns of these.
+const HEADS: [&str; 7] = [
+    "Proved",
+    "Good",
+    "Proved / good",
+    "Lean",
+    "Proved / lean",
+    "Plain",
+    "Proved / plain",
+];
 
 const RUNS: usize = 7;
 
 /// Calls in a run at small and at large geometries.
-const MANY: usize = 2000;
-const FEW: usize = 100;
+pub const MANY: usize = 2000;
+pub const FEW: usize = 100;
 
 pub fn tables() {
     println!(
         "Nanoseconds per call, median of {RUNS} runs. Every run starts from a copy of the same"
     );
     println!("store; between calls neither the store nor the reply buffer is cleared.\n");
-    println!("| Case | Geometry | Proved | Plain | Ratio |");
-    println!("|---|---|---|---|---|");
+    print_heads(&[&["Case", "Geometry"][..], &HEADS].concat());
     for kind in Kind::ALL {
         let small: &[Geometry] = match kind {
             Kind::Clone => &[case::SMALL],
@@ -31,23 +43,86 @@ pub fn tables() {
         };
         let small = small.iter().map(|geometry| (*geometry, MANY));
         for (geometry, calls) in small.chain([(case::LARGE, FEW), (case::LARGEST, FEW)]) {
-            let columns = columns(Case::new(kind, geometry, calls));
-            println!("| {} | {} | {columns} |", kind.name(), four(&geometry));
+            let mut cells = vec![kind.name().into(), four(&geometry)];
+            cells.extend(medians(Case::new(kind, geometry, calls)));
+            print_row(&cells);
         }
     }
+    println!("\nHow the cost grows with the blocks, and with the slots: WRITE, then survey.\n");
     sweep();
 }
 
-/// A case of a table in which each call is timed by itself.
+fn sweep() {
+    print_heads(&[&["Geometry"][..], &HEADS, &HEADS].concat());
+    let slots = [(1, 16), (1, 256), (1, 1024), (8, 1024), (64, 1024)];
+    let by_slots = slots.map(|(files, slots)| case::geometry(files, slots, 65_536, 512));
+    let by_blocks = [16, 256, 4096].map(|blocks| case::geometry(1, 16, blocks, 512));
+    for geometry in by_blocks.into_iter().chain(by_slots) {
+        let mut cells = vec![four(&geometry)];
+        for kind in [Kind::Write, Kind::Survey] {
+            cells.extend(medians(Case::new(kind, geometry, 4 * FEW)));
+        }
+        print_row(&cells);
+    }
+}
+
+/// A case of a table beside which the times of another archive can stand.
 pub trait Timed {
-    /// What the calls are.
+    /// What is timed.
     const TITLE: &'static str;
-    /// The argument that asks this program for one run of a case.
+    /// The argument that asks for the table.
+    const TABLE: &'static str;
+    /// The argument that asks for one run of a case.
     const WORD: &'static str;
+    /// Whether the table tells how many more blocks are used after a call.
+    const BLOCKS: bool;
 
     fn name(&self) -> &'static str;
 
     fn case(&self) -> Case;
+}
+
+/// All cases in every round, so that they can be compared with each other. `before` is this program,
+/// linked with another archive: its times and blocks stand beside those of this one.
+pub fn timed<T: Timed>(cases: &[T], before: Option<&str>) {
+    println!("Nanoseconds per call, the lowest of {RUNS} rounds.");
+    if T::BLOCKS {
+        println!("Blocks: how many more are used after a call.");
+    }
+    println!();
+    print_heads(&heads::<T>(before.is_some()));
+    let mut rounds: Vec<Rounds> = cases.iter().map(|case| Rounds::new(case.case())).collect();
+    let mut others: Vec<Vec<Cost>> = cases.iter().map(|_| Vec::new()).collect();
+    let mut store = Store::empty(&case::SMALLEST);
+    for _ in 0..RUNS {
+        for (number, rounds) in rounds.iter_mut().enumerate() {
+            rounds.more(&mut store);
+            others[number].extend(before.map(|program| other(program, T::WORD, number)));
+        }
+    }
+    for ((case, rounds), others) in cases.iter().zip(rounds).zip(others) {
+        let mut cells = vec![case.name().into(), four(&rounds.case.geometry)];
+        let proved = lowest(&rounds.times[0]);
+        cells.extend(columns(rounds.times.each_ref().map(|times| lowest(times))));
+        let blocks = T::BLOCKS.then(|| blocks(&rounds.case, &mut store));
+        cells.extend(blocks.map(|blocks| blocks.to_string()));
+        if let Some(other) = others.iter().min_by_key(|cost| cost.time) {
+            cells.extend([other.time.to_string(), ratio(proved, other.time)]);
+            cells.extend(blocks.map(|_| other.blocks.to_string()));
+        }
+        print_row(&cells);
+    }
+}
+
+fn heads<T: Timed>(before: bool) -> Vec<&'static str> {
+    let mut heads = vec![T::TITLE, "Geometry"];
+    heads.extend(HEADS);
+    heads.extend(T::BLOCKS.then_some("Blocks"));
+    if before {
+        heads.extend(["Before", "Proved / before"]);
+        heads.extend(T::BLOCKS.then_some("Blocks before"));
+    }
+    heads
 }
 
 /// Nanoseconds per call of one run, and how many more blocks are used after its first call.
@@ -56,41 +131,12 @@ struct Cost {
     blocks: i64,
 }
 
-/// All cases in every round, so that they can be compared with each other. `before` is this program,
-/// linked with another archive: its times and blocks stand beside those of this one.
-pub fn timed<T: Timed>(cases: &[T], before: Option<&str>) {
-    println!(
-        "Nanoseconds per call, the lowest of {RUNS} rounds, each call timed by itself; and the"
-    );
-    println!("blocks that are used after it and were not before.\n");
-    let [head, line] = match before {
-        None => ["", ""],
-        Some(_) => [" Before | Ratio before | Blocks before |", "---|---|---|"],
-    };
-    println!(
-        "| {} | Geometry | Proved | Plain | Ratio | Blocks |{head}",
-        T::TITLE
-    );
-    println!("|---|---|---|---|---|---|{line}");
-    let rounds = cases.iter().map(|case| Rounds::new(case.case()));
-    let mut rounds: Vec<Rounds> = rounds.collect();
-    for _ in 0..RUNS {
-        for (number, rounds) in rounds.iter_mut().enumerate() {
-            rounds.more(before.map(|program| other(program, T::WORD, number)));
-        }
-    }
-    for (case, rounds) in cases.iter().zip(rounds) {
-        let geometry = four(&rounds.case.geometry);
-        println!("| {} | {geometry} | {} |", case.name(), rounds.lowest());
-    }
-}
-
 /// One run of a case by the archive that is linked.
 pub fn one<T: Timed>(case: &T) {
-    let mut rounds = Rounds::new(case.case());
-    let blocks = rounds.blocks();
-    let time = run(&Proved, &rounds.case, &mut rounds.store);
-    println!("{time} {blocks}");
+    let case = case.case();
+    let mut store = case.store.clone();
+    let blocks = blocks(&case, &mut store);
+    println!("{} {blocks}", run(&Proved, &case, &mut store));
 }
 
 /// One run of a case by another such program.
@@ -107,18 +153,14 @@ fn other(program: &str, word: &str, number: usize) -> Cost {
     }
 }
 
-/// How the cost grows with the slots, and with the blocks.
-fn sweep() {
-    println!("\n| Geometry | WRITE, proved | Plain | Ratio | Soundness, proved | Plain | Ratio |");
-    println!("|---|---|---|---|---|---|---|");
-    let slots = [(1, 16), (1, 256), (1, 1024), (8, 1024), (64, 1024)];
-    let by_slots = slots.map(|(files, slots)| case::geometry(files, slots, 65_536, 512));
-    let by_blocks = [16, 256, 4096].map(|blocks| case::geometry(1, 16, blocks, 512));
-    for geometry in by_blocks.into_iter().chain(by_slots) {
-        let [write, soundness] =
-            [Kind::Write, Kind::Soundness].map(|kind| columns(Case::new(kind, geometry, 4 * FEW)));
-        println!("| {} | {write} | {soundness} |", four(&geometry));
-    }
+fn print_heads(heads: &[&str]) {
+    print_row(heads);
+    println!("|{}", "---|".repeat(heads.len()));
+}
+
+fn print_row(cells: &[impl Display]) {
+    cells.iter().for_each(|cell| print!("| {cell} "));
+    println!("|");
 }
 
 fn four(geometry: &Geometry) -> String {
@@ -131,86 +173,96 @@ fn four(geometry: &Geometry) -> String {
     format!("F {files}, S {slots}, N {blocks}, B {block_size}")
 }
 
-/// The medians of both, and their ratio.
-fn columns(case: Case) -> String {
-    let mut rounds = Rounds::new(case);
-    for _ in 0..RUNS {
-        rounds.more(None);
-    }
-    rounds.medians()
+fn ratio(time: u128, of: u128) -> String {
+    format!("{:.2}", time as f64 / of as f64)
 }
 
-/// A case, and the nanoseconds of its runs: the proved server's, the plain one's, and another
-/// program's, if there is one, with the blocks that it took.
+/// One time of each server.
+fn columns([proved, others @ ..]: [u128; SERVERS.len()]) -> Vec<String> {
+    let mut cells = vec![proved.to_string()];
+    for time in others {
+        cells.extend([time.to_string(), ratio(proved, time)]);
+    }
+    cells
+}
+
+fn lowest(times: &[u128]) -> u128 {
+    times.iter().copied().min().unwrap_or(0)
+}
+
+fn median(times: &[u128]) -> u128 {
+    let mut times = times.to_vec();
+    times.sort_unstable();
+    times[times.len() / 2]
+}
+
+fn medians(case: Case) -> Vec<String> {
+    let mut store = case.store.clone();
+    let mut rounds = Rounds::new(case);
+    for _ in 0..RUNS {
+        rounds.more(&mut store);
+    }
+    columns(rounds.times.each_ref().map(|times| median(times)))
+}
+
+/// A case, and the nanoseconds of each server's runs.
 struct Rounds {
     case: Case,
-    store: Store,
-    times: [Vec<u128>; 3],
-    other_blocks: i64,
+    times: [Vec<u128>; SERVERS.len()],
 }
 
 impl Rounds {
     fn new(case: Case) -> Rounds {
+        check(&case);
         Rounds {
-            store: case.store.clone(),
             case,
             times: Default::default(),
-            other_blocks: 0,
         }
     }
 
-    fn more(&mut self, other: Option<Cost>) {
+    fn more(&mut self, store: &mut Store) {
         for (server, times) in SERVERS.iter().zip(&mut self.times) {
-            times.push(run(*server, &self.case, &mut self.store));
-        }
-        if let Some(other) = other {
-            self.times[2].push(other.time);
-            self.other_blocks = other.blocks;
+            times.push(run(*server, &self.case, store));
         }
     }
+}
 
-    /// One of the times of the first two, in rising order, and their ratio; the other's, and its ratio.
-    fn chosen(&mut self, choose: impl Fn(&[u128]) -> u128) -> (String, Option<String>) {
-        let [proved, plain, other] = self.times.each_mut().map(|times| {
-            times.sort_unstable();
-            (!times.is_empty()).then(|| choose(times))
+/// Every compound ends in OK, and the servers don't differ in an answer, a reply or the store that
+/// they leave.
+fn check(case: &Case) {
+    let requests: Vec<&Vec<u8>> = match &case.work {
+        Work::Serve(requests) => requests.iter().collect(),
+        Work::Again { request, back } => [request].into_iter().chain(back).collect(),
+        Work::Survey => Vec::new(),
+    };
+    let mut sides = SERVERS.map(|server| (server, case.store.clone(), vec![0; REPLY_MIN]));
+    for request in requests {
+        let answers = sides.each_mut().map(|(server, store, reply)| {
+            server.serve(&case.geometry, store, &VERIFIER, request, reply)
         });
-        let (proved, plain) = (proved.unwrap_or(0), plain.unwrap_or(1));
-        let ratio = |time: u128| time as f64 / plain as f64;
-        let columns = format!("{proved} | {plain} | {:.2}", ratio(proved));
-        let other = other.map(|other| format!("{other} | {:.2}", ratio(other)));
-        (columns, other)
+        assert!(answers.iter().all(|answer| *answer == answers[0]));
+        let replies = sides.each_ref().map(|(_, _, reply)| reply);
+        assert!(replies.iter().all(|reply| *reply == replies[0]));
+        assert_eq!((answers[0].number, &replies[0][..4]), (0, &[0; 4][..]));
     }
+    let [(_, left, _), others @ ..] = &sides;
+    assert!(others.iter().all(|(_, store, _)| store == left));
+    let surveyed = SERVERS.map(|server| server.survey(&case.geometry, left));
+    assert!(surveyed.iter().all(|answer| *answer == surveyed[0]));
+    assert_eq!(surveyed[0].number, 0);
+}
 
-    /// The medians of both, and their ratio.
-    fn medians(mut self) -> String {
-        self.chosen(|times| times[times.len() / 2]).0
-    }
-
-    /// The lowest times of all, with the blocks.
-    fn lowest(mut self) -> String {
-        let blocks = self.blocks();
-        match self.chosen(|times| times[0]) {
-            (columns, None) => format!("{columns} | {blocks}"),
-            (columns, Some(other)) => {
-                format!("{columns} | {blocks} | {other} | {}", self.other_blocks)
-            }
-        }
-    }
-
-    /// How many more blocks are used after the first call.
-    fn blocks(&mut self) -> i64 {
-        let Rounds { case, store, .. } = self;
-        let Work::Again { request, .. } = &case.work else {
-            return 0;
-        };
-        let mut reply = vec![0; REPLY_MIN];
-        copy(&case.store, store);
-        let before = Proved.count_blocks(&case.geometry, store).used;
-        Proved.serve(&case.geometry, store, &VERIFIER, request, &mut reply);
-        let after = Proved.count_blocks(&case.geometry, store).used;
-        after as i64 - before as i64
-    }
+/// How many more blocks are used after the first call of a compound that is served again and again.
+fn blocks(case: &Case, store: &mut Store) -> i64 {
+    let Work::Again { request, .. } = &case.work else {
+        return 0;
+    };
+    let mut reply = vec![0; REPLY_MIN];
+    copy(&case.store, store);
+    let before = Proved.survey(&case.geometry, store).used;
+    Proved.serve(&case.geometry, store, &VERIFIER, request, &mut reply);
+    let after = Proved.survey(&case.geometry, store).used;
+    after as i64 - before as i64
 }
 
 /// Nanoseconds per call of one run, from the case's store on.
@@ -220,9 +272,9 @@ fn run(server: &dyn Server, case: &Case, store: &mut Store) -> u128 {
 }
 
 fn copy(from: &Store, to: &mut Store) {
-    to.sizes.copy_from_slice(&from.sizes);
-    to.words.copy_from_slice(&from.words);
-    to.mem.copy_from_slice(&from.mem);
+    to.sizes.clone_from(&from.sizes);
+    to.words.clone_from(&from.words);
+    to.mem.clone_from(&from.mem);
 }
 
 fn time(server: &dyn Server, case: &Case, store: &mut Store) -> u128 {
@@ -246,14 +298,9 @@ fn time(server: &dyn Server, case: &Case, store: &mut Store) -> u128 {
                 idle += done.elapsed();
             }
         }
-        Work::Soundness => {
+        Work::Survey => {
             for _ in 0..case.calls {
-                black_box(server.soundness(geometry, black_box(store)));
-            }
-        }
-        Work::CountBlocks => {
-            for _ in 0..case.calls {
-                black_box(server.count_blocks(geometry, black_box(store)));
+                black_box(server.survey(geometry, black_box(store)));
             }
         }
     }

@@ -1,10 +1,11 @@
 //! WRITEs that take free blocks, and WRITEs that take none.
 
 use compare::wire::{self, ZEROS};
-use second::{Geometry, Store};
+use second::Geometry;
 
 use crate::case::{self, Case, Work, LARGE};
 use crate::measure::Timed;
+use crate::stores;
 
 /// Half of `LARGE`.
 const HALF: Geometry = case::geometry(64, 512, 32_768, 512);
@@ -40,7 +41,9 @@ const fn pick(name: &'static str, holes: u64, writes: u64, bytes: usize) -> Pick
     }
 }
 
-const LAST: Pick = pick("100 bytes take the last free block", 1, 1, SHORT);
+pub const LAST: Pick = pick("100 bytes take the last free block", 1, 1, SHORT);
+pub const LONG_OF_120: Pick = pick("60,000 bytes take 118 of the last 120", 120, 1, LONG);
+pub const ELEVEN: Pick = pick("11 times 100 bytes take 11, half full", 32_768, MANY, SHORT);
 
 pub const ALL: [Pick; 8] = [
     Pick {
@@ -50,7 +53,7 @@ pub const ALL: [Pick; 8] = [
     LAST,
     pick("60,000 bytes take the last free block", 1, 1, LONG),
     pick("60,000 bytes take the last 118", LONG_SLOTS, 1, LONG),
-    pick("11 times 100 bytes take 11, half full", 32_768, MANY, SHORT),
+    ELEVEN,
     pick("100 bytes over their own block", 0, 1, SHORT),
     pick("60,000 bytes over their own blocks", 0, 1, LONG),
     pick("11 times 100 bytes over their own blocks", 0, MANY, SHORT),
@@ -58,7 +61,9 @@ pub const ALL: [Pick; 8] = [
 
 impl Timed for Pick {
     const TITLE: &'static str = "WRITE";
+    const TABLE: &'static str = "picks";
     const WORD: &'static str = "pick";
+    const BLOCKS: bool = true;
 
     fn name(&self) -> &'static str {
         self.name
@@ -69,23 +74,17 @@ impl Timed for Pick {
             request: self.request(),
             back: (self.holes > 0).then(|| self.back()),
         };
-        Case::checked(self.geometry, self.store(), CALLS, work)
+        let held = self.geometry.blocks - self.holes;
+        Case {
+            geometry: self.geometry,
+            store: stores::in_order(&self.geometry, 1, held),
+            calls: CALLS,
+            work,
+        }
     }
 }
 
 impl Pick {
-    fn store(&self) -> Store {
-        let geometry = &self.geometry;
-        let mut store = Store::empty(geometry);
-        store.sizes.fill(geometry.slots * geometry.block_size);
-        store.mem.fill(1);
-        let held = geometry.blocks - self.holes;
-        for (word, block) in store.words.iter_mut().zip(1..=held as u32) {
-            *word = 2 * block;
-        }
-        store
-    }
-
     /// The slots of a WRITE.
     fn slots(&self) -> u64 {
         (self.bytes as u64).div_ceil(self.geometry.block_size)

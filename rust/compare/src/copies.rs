@@ -3,7 +3,7 @@
 use std::fmt;
 use std::ops::Range;
 
-use second::{count_blocks, serve, Geometry, Store, REPLY_MIN};
+use second::{serve, survey, Geometry, Store, REPLY_MIN};
 
 use crate::list::Step;
 use crate::slots::{kinds, SLOTS};
@@ -155,13 +155,13 @@ impl Copying {
         let (from, to) = (from?, to?);
         let (b, end) = (self.geometry.block_size, to + count);
         let first = file * self.geometry.slots as usize;
-        let counted = count_blocks(&self.geometry, &before);
+        let surveyed = survey(&self.geometry, &before);
         (count > 0).then(|| Copied {
             slots: first + (to / b) as usize..first + end.div_ceil(b) as usize,
             kinds: kinds(&self.geometry, &before.words),
             differ: from % b != to % b,
             cut: end % b != 0 && end == after.sizes[file],
-            full: counted.used + counted.owed == self.blocks,
+            full: surveyed.used + surveyed.owed == self.blocks,
             words: [before.words, after.words],
         })
     }

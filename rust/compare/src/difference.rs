@@ -18,8 +18,7 @@ pub struct Difference {
 pub fn observations_differ(left: &Observed, right: &Observed) -> Option<String> {
     answers_differ("serve", &left.served, &right.served)
         .or_else(|| views_differ(left.shown.as_ref()?, right.shown.as_ref()?))
-        .or_else(|| answers_differ("soundness", &left.soundness, &right.soundness))
-        .or_else(|| answers_differ("count_blocks", &left.counted, &right.counted))
+        .or_else(|| answers_differ("survey", &left.surveyed, &right.surveyed))
         .or_else(|| copies_differ(left.on_copy.as_ref()?, right.on_copy.as_ref()?))
 }
 

@@ -40,5 +40,5 @@ pub use random::Random;
 pub use seed::{differs, try_seed, Found};
 #[cfg(feature = "proved")]
 pub use server::Proved;
-pub use server::{Counted, Second, Served, Server, Shown};
+pub use server::{Second, Served, Server, Shown, Surveyed};
 pub use tally::Tally;

@@ -4,14 +4,13 @@ use std::fmt;
 
 use second::Store;
 
-use crate::server::{Counted, Served, Shown};
+use crate::server::{Served, Shown, Surveyed};
 
 /// What one side shows of a step besides its store and its reply buffer.
 pub(crate) struct Observed {
     pub served: Option<Served>,
     pub shown: Option<Shown>,
-    pub soundness: u32,
-    pub counted: Counted,
+    pub surveyed: Surveyed,
     /// Of a call with tables of its own.
     pub on_copy: Option<OnCopy>,
 }
@@ -27,8 +26,7 @@ impl fmt::Display for Observed {
         let Observed {
             served,
             shown,
-            soundness,
-            counted,
+            surveyed,
             on_copy,
         } = self;
         if let Some(served) = served {
@@ -44,8 +42,8 @@ impl fmt::Display for Observed {
         if let Some(Shown { number, part, .. }) = shown {
             write!(f, "slot_view {number}, part {part:?}; ")?;
         }
-        write!(f, "soundness {soundness}; count_blocks {}", counted.number)?;
-        write!(f, ", used {}, owed {}", counted.used, counted.owed)?;
+        let Surveyed { number, used, owed } = surveyed;
+        write!(f, "survey {number}, used {used}, owed {owed}")?;
         match on_copy {
             Some(on_copy) => write!(f, "; make_empty {}", on_copy.emptied),
             None => Ok(()),

@@ -88,8 +88,7 @@ fn judge(server: &dyn Server, geometry: &Geometry, store: &Store) -> Observed {
     Observed {
         served: None,
         shown: None,
-        soundness: server.soundness(geometry, store),
-        counted: server.count_blocks(geometry, store),
+        surveyed: server.survey(geometry, store),
         on_copy: None,
     }
 }

@@ -23,17 +23,36 @@ const SERVED_EVERY: u64 = 4;
 /// More than the calls need.
 const STACK: usize = 8 << 20;
 
-/// A server and a client.
-pub trait Program: Server + Client + Sync {}
+/// A program with its name: a server, and a client where it has one.
+#[derive(Clone, Copy)]
+pub struct Named<'a> {
+    pub name: &'a str,
+    pub server: &'a (dyn Server + Sync),
+    pub client: Option<&'a (dyn Client + Sync)>,
+}
 
-impl<T: Server + Client + Sync> Program for T {}
+impl<'a> Named<'a> {
+    pub fn whole(name: &'a str, program: &'a (impl Server + Client + Sync)) -> Named<'a> {
+        Named {
+            name,
+            server: program,
+            client: Some(program),
+        }
+    }
 
-/// A program with its name.
-pub type Named<'a> = (&'a str, &'a dyn Program);
+    pub fn server(name: &'a str, server: &'a (impl Server + Sync)) -> Named<'a> {
+        Named {
+            name,
+            server,
+            client: None,
+        }
+    }
+}
 
-/// Compares two programs: success, or 1 on a difference, or 2 on arguments that aren't numbers.
-pub fn main(programs: [Named; 2]) -> ExitCode {
-    let arguments = std::env::args().skip(1).map(|word| word.parse().ok());
+/// Compares two programs, their clients where both have one: success, or 1 on a difference, or 2 on
+/// arguments that aren't numbers.
+pub fn main(programs: [Named; 2], arguments: impl Iterator<Item = String>) -> ExitCode {
+    let arguments = arguments.map(|word| word.parse().ok());
     let Some(arguments) = arguments.collect::<Option<Vec<u64>>>() else {
         eprintln!("arguments: [SEEDS] [FIRST_SEED]");
         return ExitCode::from(2);
@@ -43,7 +62,7 @@ pub fn main(programs: [Named; 2]) -> ExitCode {
     match with_stack(|| compare(programs, first..first + seeds)) {
         Ok(tallies) => report(&tallies),
         Err(difference) => {
-            difference.report(programs.map(|named| named.0));
+            difference.report(programs.map(|program| program.name));
             ExitCode::FAILURE
         }
     }
@@ -61,7 +80,7 @@ pub fn with_stack<T: Send>(work: impl FnOnce() -> T + Send) -> T {
 #[derive(Default)]
 struct Tallies {
     servers: Tally,
-    clients: ClientTally,
+    clients: Option<ClientTally>,
 }
 
 /// Where two programs differ.
@@ -79,24 +98,55 @@ impl From<Box<Found>> for Difference {
 
 fn compare(programs: [Named; 2], seeds: Range<u64>) -> Result<Tallies, Difference> {
     let mut tallies = Tallies::default();
-    let servers = programs.map(|named| named.1 as &dyn Server);
-    let clients = programs.map(|named| named.1 as &dyn Client);
+    let servers = programs.map(|program| program.server as &dyn Server);
     try_damaged(servers, &mut tallies.servers)?;
-    try_replies(servers[0], clients, &mut tallies.clients)
-        .map_err(|parted| Difference::Clients("replies".into(), parted))?;
+    let mut clients = Clients::new(programs);
+    if let Some(clients) = &mut clients {
+        clients.replies()?;
+    }
     for seed in seeds {
         if seed.is_multiple_of(PROGRESS) {
             eprintln!("seed {seed}");
         }
         try_seed(seed, servers, &mut tallies.servers)?;
-        try_requests(seed, clients, &mut tallies.clients)
-            .map_err(|parted| Difference::Clients(format!("seed {seed}, requests"), parted))?;
-        if seed.is_multiple_of(SERVED_EVERY) {
-            try_served(seed, servers[0], clients, &mut tallies.clients)
-                .map_err(|parted| Difference::Clients(format!("seed {seed}, served"), parted))?;
+        if let Some(clients) = &mut clients {
+            clients.seed(seed)?;
         }
     }
+    tallies.clients = clients.map(|clients| clients.tally);
     Ok(tallies)
+}
+
+/// Two clients, and a server whose replies they read.
+struct Clients<'a> {
+    server: &'a dyn Server,
+    clients: [&'a dyn Client; 2],
+    tally: ClientTally,
+}
+
+impl<'a> Clients<'a> {
+    fn new([left, right]: [Named<'a>; 2]) -> Option<Clients<'a>> {
+        Some(Clients {
+            server: left.server,
+            clients: [left.client?, right.client?],
+            tally: ClientTally::default(),
+        })
+    }
+
+    fn replies(&mut self) -> Result<(), Difference> {
+        try_replies(self.server, self.clients, &mut self.tally)
+            .map_err(|parted| Difference::Clients("replies".into(), parted))
+    }
+
+    fn seed(&mut self, seed: u64) -> Result<(), Difference> {
+        try_requests(seed, self.clients, &mut self.tally)
+            .map_err(|parted| Difference::Clients(format!("seed {seed}, requests"), parted))?;
+        if seed.is_multiple_of(SERVED_EVERY) {
+            try_served(seed, self.server, self.clients, &mut self.tally)
+                .map_err(|parted| Difference::Clients(format!("seed {seed}, served"), parted))?;
+        }
+        Ok(())
+    }
 }
 
 /// Failure where a reply has something that document 01 doesn't allow.
@@ -105,15 +155,22 @@ fn report(tallies: &Tallies) -> ExitCode {
         servers: tally,
         clients,
     } = tallies;
-    println!("{tally}\n{clients}");
-    for missing in tally.missing().iter().chain(&clients.missing()) {
+    println!("{tally}");
+    let mut missing = tally.missing();
+    if let Some(clients) = clients {
+        println!("{clients}");
+        missing.extend(clients.missing());
+    }
+    for missing in missing {
         println!("never met: {missing}");
     }
     let strange = tally.strange();
     for strange in &strange {
         println!("not allowed: {strange}");
     }
-    println!("{}", clients.line());
+    if let Some(clients) = clients {
+        println!("{}", clients.line());
+    }
     println!(
         "{} lists, {} damaged requests, {} calls, {} operations, {} slots shown compared",
         tally.lists, tally.damaged, tally.calls, tally.operations, tally.views

@@ -114,7 +114,7 @@ fn run_step(pair: &mut Pair, step: &Step, tally: &mut Tally) -> Result<u32, Diff
     if let (Some(outcome), Some(copying)) = (&outcome, &copying) {
         tally.add_copies(copying, outcome);
     }
-    Ok(observed.soundness)
+    Ok(observed.surveyed.number)
 }
 
 /// A short list with a difference, and that difference.

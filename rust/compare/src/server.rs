@@ -1,10 +1,10 @@
-//! What is compared: a server behind its five calls.
+//! What is compared: a server behind its four calls.
 
 use second::{Geometry, Kind, Store};
 
-/// A count's number, 0 or a refusal, and used and owed blocks.
+/// A survey's number, 0 or a refusal, and used and owed blocks.
 #[derive(Clone, Copy, Debug, PartialEq, Eq)]
-pub struct Counted {
+pub struct Surveyed {
     pub number: u32,
     pub used: u64,
     pub owed: u64,
@@ -32,9 +32,7 @@ pub struct Shown {
 pub trait Server {
     fn make_empty(&self, geometry: &Geometry, store: &mut Store) -> u32;
 
-    fn soundness(&self, geometry: &Geometry, store: &Store) -> u32;
-
-    fn count_blocks(&self, geometry: &Geometry, store: &Store) -> Counted;
+    fn survey(&self, geometry: &Geometry, store: &Store) -> Surveyed;
 
     fn slot_view(
         &self,
@@ -68,16 +66,12 @@ impl Server for Second {
         second::make_empty(geometry, store)
     }
 
-    fn soundness(&self, geometry: &Geometry, store: &Store) -> u32 {
-        second::soundness(geometry, store)
-    }
-
-    fn count_blocks(&self, geometry: &Geometry, store: &Store) -> Counted {
-        let counted = second::count_blocks(geometry, store);
-        Counted {
-            number: counted.number,
-            used: counted.used,
-            owed: counted.owed,
+    fn survey(&self, geometry: &Geometry, store: &Store) -> Surveyed {
+        let surveyed = second::survey(geometry, store);
+        Surveyed {
+            number: surveyed.number,
+            used: surveyed.used,
+            owed: surveyed.owed,
         }
     }
 
@@ -154,18 +148,13 @@ mod proved {
             server_sys::make_empty(&four(geometry), sizes, words, mem)
         }
 
-        fn soundness(&self, geometry: &Geometry, store: &Store) -> u32 {
+        fn survey(&self, geometry: &Geometry, store: &Store) -> Surveyed {
             let Store { sizes, words, mem } = store;
-            server_sys::soundness(&four(geometry), sizes, words, mem)
-        }
-
-        fn count_blocks(&self, geometry: &Geometry, store: &Store) -> Counted {
-            let Store { sizes, words, mem } = store;
-            let counted = server_sys::count_blocks(&four(geometry), sizes, words, mem);
-            Counted {
-                number: counted.number,
-                used: counted.used,
-                owed: counted.owed,
+            let surveyed = server_sys::survey(&four(geometry), sizes, words, mem);
+            Surveyed {
+                number: surveyed.number,
+                used: surveyed.used,
+                owed: surveyed.owed,
             }
         }
 

@@ -35,11 +35,10 @@ const WITHOUT_RESULT: [u32; 3] = [0, 10021, 10070];
 
 /// The calls, each with its numbers; whether a place was told; and where a slot that was shown
 /// lies, in the memory or in the page.
-const NUMBERS: [(&str, &[u32]); 7] = [
+const NUMBERS: [(&str, &[u32]); 6] = [
     ("serve", &[0, 1, 2, 3, 4, 5, 6]),
     ("place told", &[0, 1]),
-    ("soundness", &[0, 1, 2, 3]),
-    ("count_blocks", &[0, 1, 2, 3]),
+    ("survey", &[0, 1, 2, 3]),
     ("make_empty", &[0, 1, 2]),
     ("slot_view", &[0, 1, 2, 3, 8]),
     ("shown in", &[0, 1]),
@@ -84,8 +83,7 @@ pub struct Tally {
 
 impl Tally {
     pub(crate) fn add(&mut self, observed: &Observed, outcome: Option<&Outcome>) {
-        self.add_answer("soundness", observed.soundness);
-        self.add_answer("count_blocks", observed.counted.number);
+        self.add_answer("survey", observed.surveyed.number);
         if let Some(on_copy) = &observed.on_copy {
             self.add_answer("make_empty", on_copy.emptied);
         }

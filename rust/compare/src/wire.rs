@@ -167,7 +167,7 @@ pub enum Told {
     Attributes(Vec<u32>),
 }
 
-/// Takes a whole reply on_copy; nothing where it isn't laid out as one.
+/// Takes a whole reply apart; nothing where it isn't laid out as one.
 pub fn outcome(reply: &[u8]) -> Option<Outcome> {
     let mut reply = Walk(reply);
     let status = reply.int()?;

@@ -2,7 +2,7 @@
 
 use compare::wire::{self, Told};
 use compare::{
-    differs, try_damaged, try_seed, Counted, Found, List, Second, Served, Server, Shown, Step,
+    differs, try_damaged, try_seed, Found, List, Second, Served, Server, Shown, Step, Surveyed,
     Tally,
 };
 use second::{Geometry, Store, NOWHERE};
@@ -89,12 +89,8 @@ impl<F: Fn(Scene)> Server for Serving<F> {
         Second.make_empty(geometry, store)
     }
 
-    fn soundness(&self, geometry: &Geometry, store: &Store) -> u32 {
-        Second.soundness(geometry, store)
-    }
-
-    fn count_blocks(&self, geometry: &Geometry, store: &Store) -> Counted {
-        Second.count_blocks(geometry, store)
+    fn survey(&self, geometry: &Geometry, store: &Store) -> Surveyed {
+        Second.survey(geometry, store)
     }
 
     fn slot_view(
@@ -145,12 +141,8 @@ impl<F: Fn(&mut Store)> Server for Judging<F> {
         Second.make_empty(geometry, store)
     }
 
-    fn soundness(&self, geometry: &Geometry, store: &Store) -> u32 {
-        Second.soundness(geometry, &self.seen(store))
-    }
-
-    fn count_blocks(&self, geometry: &Geometry, store: &Store) -> Counted {
-        Second.count_blocks(geometry, &self.seen(store))
+    fn survey(&self, geometry: &Geometry, store: &Store) -> Surveyed {
+        Second.survey(geometry, &self.seen(store))
     }
 
     fn slot_view(
@@ -199,12 +191,8 @@ impl Server for Showing {
         Second.make_empty(geometry, store)
     }
 
-    fn soundness(&self, geometry: &Geometry, store: &Store) -> u32 {
-        Second.soundness(geometry, store)
-    }
-
-    fn count_blocks(&self, geometry: &Geometry, store: &Store) -> Counted {
-        Second.count_blocks(geometry, store)
+    fn survey(&self, geometry: &Geometry, store: &Store) -> Surveyed {
+        Second.survey(geometry, store)
     }
 
     fn slot_view(
@@ -443,7 +431,7 @@ fn a_refused_call_that_writes() {
 #[test]
 fn a_byte_past_a_size_that_goes_unseen() {
     let found = found(&Judging(|store: &mut Store| store.mem.fill(0)));
-    assert!(found.difference.what.ends_with("of soundness"));
+    assert!(found.difference.what.ends_with("of survey"));
     let damages = |step: &&Step| matches!(step, Step::Damage(_));
     assert_eq!(found.list.steps.iter().filter(damages).count(), 1);
     assert!(found.list.to_string().contains("WRITE"));
@@ -457,7 +445,7 @@ fn a_reserve_that_is_counted_for_holes_alone() {
         }
     }));
     // The clone of a reserved slot owes a block.
-    assert!(found.difference.what.ends_with("of count_blocks"));
+    assert!(found.difference.what.ends_with("of survey"));
     assert!(found.list.to_string().contains("CLONE"));
 }
 

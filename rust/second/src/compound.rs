@@ -12,10 +12,10 @@ pub const REQUEST_MAX: usize = 65_536;
 /// The shortest reply buffer that is taken.
 pub const REPLY_MIN: usize = 32_768;
 
-const VERIFIER_LENGTH: usize = 8;
+pub const VERIFIER_LENGTH: usize = 8;
 pub(crate) const TAG_MAX: u32 = 1024;
-pub(crate) const MINOR_VERSION: u32 = 2;
-pub(crate) const OPERATIONS_MAX: u32 = 12;
+pub const MINOR_VERSION: u32 = 2;
+pub const OPERATIONS_MAX: u32 = 12;
 
 /// The place where no byte of a request is wrong.
 pub const NOWHERE: usize = 4_294_967_295;
@@ -91,15 +91,15 @@ fn admit(
 }
 
 /// The start of a request, and the reader of what follows it.
-struct Header<'a> {
-    tag: &'a [u8],
-    minor_version: u32,
-    operations: u32,
-    rest: Reader<'a>,
+pub struct Header<'a> {
+    pub tag: &'a [u8],
+    pub minor_version: u32,
+    pub operations: u32,
+    pub rest: Reader<'a>,
 }
 
 impl<'a> Header<'a> {
-    fn decode(request: &'a [u8]) -> Result<Header<'a>, BadXdr> {
+    pub fn decode(request: &'a [u8]) -> Result<Header<'a>, BadXdr> {
         let mut reader = Reader::new(request);
         Ok(Header {
             tag: reader.opaque(TAG_MAX)?,

@@ -21,7 +21,7 @@ impl Geometry {
     }
 
     /// The largest size of a file, S×B.
-    pub(crate) fn capacity(&self) -> u64 {
+    pub fn capacity(&self) -> u64 {
         self.slots * self.block_size
     }
 
@@ -34,19 +34,19 @@ impl Geometry {
     }
 
     /// Where a file's words stand in the word table.
-    pub(crate) fn words_of(&self, file: usize) -> Range<usize> {
+    pub fn words_of(&self, file: usize) -> Range<usize> {
         let slots = self.slots as usize;
         file * slots..(file + 1) * slots
     }
 
     /// Where a block's bytes stand in the block memory.
-    pub(crate) fn bytes_of(&self, block: usize) -> Range<usize> {
+    pub fn bytes_of(&self, block: usize) -> Range<usize> {
         let size = self.block_size as usize;
         block * size..(block + 1) * size
     }
 
     /// The slots of a file with at least one byte in the region.
-    pub(crate) fn touched(&self, region: &Range<u64>) -> Range<usize> {
+    pub fn touched(&self, region: &Range<u64>) -> Range<usize> {
         if region.is_empty() {
             return 0..0;
         }
@@ -56,13 +56,13 @@ impl Geometry {
     }
 
     /// The bytes of the file that a slot stands for.
-    pub(crate) fn span(&self, slot: usize) -> Range<u64> {
+    pub fn span(&self, slot: usize) -> Range<u64> {
         let start = slot as u64 * self.block_size;
         start..start + self.block_size
     }
 
     /// The part of a slot that lies in the region, counted from the slot's start.
-    pub(crate) fn within(&self, slot: usize, region: &Range<u64>) -> Range<usize> {
+    pub fn within(&self, slot: usize, region: &Range<u64>) -> Range<usize> {
         let span = self.span(slot);
         let part = common(&span, region);
         (part.start - span.start) as usize..(part.end - span.start) as usize

@@ -20,9 +20,14 @@ mod status;
 mod store;
 mod xdr;
 
-pub use compound::{serve, Served, NOWHERE, REPLY_MIN, REQUEST_MAX};
+pub use compound::{
+    serve, Header, Served, MINOR_VERSION, NOWHERE, OPERATIONS_MAX, REPLY_MIN, REQUEST_MAX,
+    VERIFIER_LENGTH,
+};
 pub use frames::{line, GEOMETRY, VERIFIER};
 pub use geometry::Geometry;
+pub use operation::{decode, Count, Length, Operation, Stateid, Transfer, Undecoded, Why};
 pub use replay::{replay, Verdict};
 pub use status::{Refusal, Status};
-pub use store::{count_blocks, make_empty, slot, soundness, Counted, Kind, Shown, Store};
+pub use store::{check_shape, make_empty, slot, survey, Kind, Shown, Store, Surveyed};
+pub use xdr::{BadXdr, Reader};

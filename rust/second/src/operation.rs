@@ -3,7 +3,7 @@
 use crate::status::Status;
 use crate::xdr::{BadXdr, Reader};
 
-pub(crate) type Stateid = [u8; 16];
+pub type Stateid = [u8; 16];
 
 /// The longest handle that decodes.
 pub(crate) const HANDLE_MAX: u32 = 128;
@@ -34,7 +34,7 @@ pub(crate) mod number {
     pub const LAST: u32 = 71;
 }
 
-pub(crate) enum Operation<'a> {
+pub enum Operation<'a> {
     GetAttr {
         asked: Vec<u32>,
     },
@@ -63,21 +63,21 @@ pub(crate) enum Operation<'a> {
 }
 
 /// What READ and READ_PLUS ask for.
-pub(crate) struct Count {
+pub struct Count {
     pub stateid: Stateid,
     pub offset: u64,
     pub count: u32,
 }
 
 /// The region of ALLOCATE and DEALLOCATE.
-pub(crate) struct Length {
+pub struct Length {
     pub stateid: Stateid,
     pub offset: u64,
     pub length: u64,
 }
 
 /// What COPY and CLONE ask for.
-pub(crate) struct Transfer {
+pub struct Transfer {
     pub source_stateid: Stateid,
     pub target_stateid: Stateid,
     pub source_offset: u64,
@@ -86,13 +86,13 @@ pub(crate) struct Transfer {
 }
 
 /// An operation that is answered without being run: none of its bytes count as read.
-pub(crate) struct Undecoded {
+pub struct Undecoded {
     pub number: u32,
     pub why: Why,
 }
 
 /// Its bytes are wrong, or it has another status.
-pub(crate) enum Why {
+pub enum Why {
     Bytes(BadXdr),
     Status(Status),
 }
@@ -104,7 +104,7 @@ impl From<BadXdr> for Why {
 }
 
 /// Takes the next operation apart; its number comes first.
-pub(crate) fn decode<'a>(reader: &mut Reader<'a>) -> Result<(u32, Operation<'a>), Undecoded> {
+pub fn decode<'a>(reader: &mut Reader<'a>) -> Result<(u32, Operation<'a>), Undecoded> {
     let number = reader.u32().map_err(|bad| Undecoded {
         number: ILLEGAL,
         why: bad.into(),

@@ -90,7 +90,7 @@ pub(crate) fn tally(slots: impl Iterator<Item = Slot> + Clone, blocks: u64) -> (
 }
 
 /// Refusals 1 and 2, as far as they concern the geometry and the store.
-pub(crate) fn check_shape(geometry: &Geometry, store: &Store) -> Result<(), Refusal> {
+pub fn check_shape(geometry: &Geometry, store: &Store) -> Result<(), Refusal> {
     if !geometry.is_valid() {
         return Err(Refusal::Geometry);
     }
@@ -100,23 +100,18 @@ pub(crate) fn check_shape(geometry: &Geometry, store: &Store) -> Result<(), Refu
     fits.then_some(()).ok_or(Refusal::Length)
 }
 
-/// Refusal 3, for a store of the right shape.
-pub(crate) fn check_sound(geometry: &Geometry, store: &Store) -> Result<(), Refusal> {
-    is_sound(geometry, store)
-        .then_some(())
-        .ok_or(Refusal::Unsound)
-}
-
-fn is_sound(geometry: &Geometry, store: &Store) -> bool {
+/// Used and owed blocks of a store of the right shape, or refusal 3.
+pub(crate) fn check_sound(geometry: &Geometry, store: &Store) -> Result<(u64, u64), Refusal> {
     let well_formed = |&word: &u32| u64::from(word / 2) <= geometry.blocks;
-    if !store.words.iter().all(well_formed) {
-        return false;
-    }
-    if !(0..store.sizes.len()).all(|file| is_file_sound(geometry, store, file)) {
-        return false;
+    let sound = store.words.iter().all(well_formed)
+        && (0..store.sizes.len()).all(|file| is_file_sound(geometry, store, file));
+    if !sound {
+        return Err(Refusal::Unsound);
     }
     let (used, owed) = tally(decoded(&store.words), geometry.blocks);
-    used + owed <= geometry.blocks
+    (used + owed <= geometry.blocks)
+        .then_some((used, owed))
+        .ok_or(Refusal::Unsound)
 }
 
 /// The size fits, nothing stands past it, neither words nor bytes.
@@ -140,8 +135,8 @@ fn is_file_sound(geometry: &Geometry, store: &Store, file: usize) -> bool {
     })
 }
 
-fn number(outcome: Result<(), Refusal>) -> u32 {
-    outcome.map_or_else(Refusal::number, |()| 0)
+fn number<T>(outcome: Result<T, Refusal>) -> u32 {
+    outcome.map_or_else(Refusal::number, |_| 0)
 }
 
 /// Zeroes every table and the block memory: 0, or 1 or 2.
@@ -155,27 +150,23 @@ pub fn make_empty(geometry: &Geometry, store: &mut Store) -> u32 {
     number(outcome)
 }
 
-/// 0 for a sound store, else 1, 2 or 3.
-pub fn soundness(geometry: &Geometry, store: &Store) -> u32 {
-    number(check_shape(geometry, store).and_then(|()| check_sound(geometry, store)))
-}
-
-/// The answer of `count_blocks`; zero counts on a refusal.
+/// The answer of `survey`; zero counts on a refusal.
 #[derive(Clone, Copy, Debug, PartialEq, Eq)]
-pub struct Counted {
+pub struct Surveyed {
     pub number: u32,
     pub used: u64,
     pub owed: u64,
 }
 
-/// Used and owed blocks: 0 and the counts, else 1, 2 or 3.
-pub fn count_blocks(geometry: &Geometry, store: &Store) -> Counted {
-    let number = soundness(geometry, store);
-    let (used, owed) = match number {
-        0 => tally(decoded(&store.words), geometry.blocks),
-        _ => (0, 0),
-    };
-    Counted { number, used, owed }
+/// 0 with the used and owed blocks of a sound store, else 1, 2 or 3.
+pub fn survey(geometry: &Geometry, store: &Store) -> Surveyed {
+    let counts = check_shape(geometry, store).and_then(|()| check_sound(geometry, store));
+    let (used, owed) = counts.unwrap_or_default();
+    Surveyed {
+        number: number(counts),
+        used,
+        owed,
+    }
 }
 
 /// What a slot view shows.

@@ -3,13 +3,13 @@
 /// Missing bytes, or bytes that stand for no value, and the place of the first fault: the first
 /// missing byte, a pad byte that isn't zero, or the first byte of a number out of range.
 #[derive(Clone, Copy, Debug, PartialEq, Eq)]
-pub(crate) struct BadXdr {
+pub struct BadXdr {
     pub place: usize,
 }
 
 /// Reads a request or a reply, onward.
 #[derive(Clone)]
-pub(crate) struct Reader<'a> {
+pub struct Reader<'a> {
     bytes: &'a [u8],
     at: usize,
 }

@@ -12,9 +12,9 @@ pub struct Geometry {
     pub block_size: u64,
 }
 
-/// A count's number, 0 or a refusal, and used and owed blocks.
+/// A survey's number, 0 or a refusal, and used and owed blocks.
 #[derive(Clone, Copy, Debug, PartialEq, Eq)]
-pub struct Counted {
+pub struct Surveyed {
     pub number: u32,
     pub used: u64,
     pub owed: u64,
@@ -59,20 +59,7 @@ mod archive {
             mem_len: usize,
         ) -> u32;
 
-        pub fn store_soundness(
-            files: u64,
-            slots: u64,
-            blocks: u64,
-            block_size: u64,
-            sizes: *const u64,
-            sizes_len: usize,
-            words: *const u32,
-            words_len: usize,
-            mem: *const u8,
-            mem_len: usize,
-        ) -> u32;
-
-        pub fn store_count_blocks(
+        pub fn store_survey(
             files: u64,
             slots: u64,
             blocks: u64,
@@ -126,7 +113,7 @@ mod archive {
     }
 }
 
-// In all five calls: the pointers and lengths are those of live slices that nobody else uses
+// In all four calls: the pointers and lengths are those of live slices that nobody else uses
 // meanwhile, and the pointer of an empty slice isn't null.
 
 /// Zeroes every table and the block memory: 0, or 1 or 2.
@@ -153,31 +140,12 @@ pub fn make_empty(
     }
 }
 
-/// 0 for a sound store, else 1, 2 or 3.
-pub fn soundness(geometry: &Geometry, sizes: &[u64], words: &[u32], mem: &[u8]) -> u32 {
-    // SAFETY: see above.
-    unsafe {
-        archive::store_soundness(
-            geometry.files,
-            geometry.slots,
-            geometry.blocks,
-            geometry.block_size,
-            sizes.as_ptr(),
-            sizes.len(),
-            words.as_ptr(),
-            words.len(),
-            mem.as_ptr(),
-            mem.len(),
-        )
-    }
-}
-
-/// Used and owed blocks: 0 and the counts, else 1, 2 or 3 and zeros.
-pub fn count_blocks(geometry: &Geometry, sizes: &[u64], words: &[u32], mem: &[u8]) -> Counted {
+/// 0 with the used and owed blocks of a sound store, else 1, 2 or 3 and zeros.
+pub fn survey(geometry: &Geometry, sizes: &[u64], words: &[u32], mem: &[u8]) -> Surveyed {
     let mut counts = [UNSET; 2];
     // SAFETY: see above; `counts` has the two numbers that are set.
     let number = unsafe {
-        archive::store_count_blocks(
+        archive::store_survey(
             geometry.files,
             geometry.slots,
             geometry.blocks,
@@ -192,7 +160,7 @@ pub fn count_blocks(geometry: &Geometry, sizes: &[u64], words: &[u32], mem: &[u8
         )
     };
     let [used, owed] = counts;
-    Counted { number, used, owed }
+    Surveyed { number, used, owed }
 }
 
 /// Shows one slot without copying: 0 and its block's part of `mem`, or the whole zero page for a

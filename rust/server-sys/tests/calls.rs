@@ -1,8 +1,7 @@
 //! Each call with good and damaged arguments, and each number of a refusal.
 
 use server_sys::{
-    count_blocks, make_empty, serve, slot_view, soundness, Counted, Geometry, Served, Shown,
-    NOWHERE,
+    make_empty, serve, slot_view, survey, Geometry, Served, Shown, Surveyed, NOWHERE,
 };
 
 const GEOMETRY: Geometry = Geometry {
@@ -58,12 +57,8 @@ impl Tables {
         )
     }
 
-    fn soundness(&self) -> u32 {
-        soundness(&self.geometry, &self.sizes, &self.words, &self.mem)
-    }
-
-    fn count_blocks(&self) -> Counted {
-        count_blocks(&self.geometry, &self.sizes, &self.words, &self.mem)
+    fn survey(&self) -> Surveyed {
+        survey(&self.geometry, &self.sizes, &self.words, &self.mem)
     }
 
     fn slot_view(&self, page: &[u8], file: u64, slot: u64) -> Shown {
@@ -193,26 +188,14 @@ fn empty_tables() {
 
 #[test]
 fn sound_and_damaged_tables() {
-    assert_eq!(Tables::empty().soundness(), 0);
-    assert_eq!(Tables::used().soundness(), 0);
+    let surveyed = |number, used, owed| Surveyed { number, used, owed };
+    assert_eq!(Tables::empty().survey(), surveyed(0, 0, 0));
+    assert_eq!(Tables::used().survey(), surveyed(0, 2, 1));
     for (number, tables) in misfits() {
-        assert_eq!(tables.soundness(), number);
+        assert_eq!(tables.survey(), surveyed(number, 0, 0));
     }
     for tables in damaged() {
-        assert_eq!(tables.soundness(), 3);
-    }
-}
-
-#[test]
-fn used_and_owed_blocks() {
-    let counted = |number, used, owed| Counted { number, used, owed };
-    assert_eq!(Tables::empty().count_blocks(), counted(0, 0, 0));
-    assert_eq!(Tables::used().count_blocks(), counted(0, 2, 1));
-    for (number, tables) in misfits() {
-        assert_eq!(tables.count_blocks(), counted(number, 0, 0));
-    }
-    for tables in damaged() {
-        assert_eq!(tables.count_blocks(), counted(3, 0, 0));
+        assert_eq!(tables.survey(), surveyed(3, 0, 0));
     }
 }
 

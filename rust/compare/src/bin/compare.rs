@@ -2,8 +2,13 @@
 
 use std::process::ExitCode;
 
-use compare::{program, Proved, Second};
+use compare::program::{self, Named};
+use compare::{Proved, Second};
 
 fn main() -> ExitCode {
-    program::main([("proved", &Proved), ("second", &Second)])
+    let programs = [
+        Named::whole("proved", &Proved),
+        Named::whole("second", &Second),
+    ];
+    program::main(programs, std::env::args().skip(1))
 }

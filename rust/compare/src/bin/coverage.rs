@@ -2,8 +2,10 @@
 
 use std::process::ExitCode;
 
-use compare::{program, Second};
+use compare::program::{self, Named};
+use compare::Second;
 
 fn main() -> ExitCode {
-    program::main([("second", &Second), ("second again", &Second)])
+    let programs = ["second", "second again"].map(|name| Named::whole(name, &Second));
+    program::main(programs, std::env::args().skip(1))
 }

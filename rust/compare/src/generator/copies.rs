@@ -1,6 +1,6 @@
 //! COPYs from a file with holes onto slots that are holes, written, reserved or shared.
 
-use second::count_blocks;
+use second::survey;
 
 use super::Maker;
 use crate::wire;
@@ -30,8 +30,8 @@ impl Maker<'_> {
 
     /// A COPY in a pool that is full, or has a block or two left.
     pub fn copy_in_full_pool(&mut self) -> Vec<Vec<u8>> {
-        let counted = count_blocks(&self.geometry, self.store);
-        let left = self.geometry.blocks - counted.used - counted.owed;
+        let surveyed = survey(&self.geometry, self.store);
+        let left = self.geometry.blocks - surveyed.used - surveyed.owed;
         let left = left.saturating_sub(self.random.pick(&[0, 0, 0, 1, 2]));
         let b = self.block_size();
         let (source, filled) = (self.source(), self.file());

@@ -1,6 +1,6 @@
 //! Compounds of several operations that belong together.
 
-use second::count_blocks;
+use second::survey;
 
 use super::{Maker, OPERATIONS_MAX};
 use crate::wire;
@@ -66,8 +66,8 @@ impl Maker<'_> {
 
     /// Asks for as many blocks as are left, or for one more, or for one less.
     fn fill_pool(&mut self) -> Vec<Vec<u8>> {
-        let counted = count_blocks(&self.geometry, self.store);
-        let left = self.geometry.blocks - counted.used - counted.owed;
+        let surveyed = survey(&self.geometry, self.store);
+        let left = self.geometry.blocks - surveyed.used - surveyed.owed;
         let wanted = (left + self.random.below(3)).saturating_sub(1).max(1);
         let b = self.block_size();
         let file = self.file();

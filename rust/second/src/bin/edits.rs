@@ -5,7 +5,7 @@
 
 use std::io::{self, BufRead, Write};
 
-use second::{count_blocks, make_empty, Geometry, Store};
+use second::{make_empty, survey, Geometry, Store};
 
 /// What the tables of the other program hold.
 const SIZES: u64 = 4;
@@ -43,8 +43,8 @@ fn main() -> io::Result<()> {
 
 fn answer(geometry: &Geometry, store: &mut Store, line: &[u8]) -> Vec<u8> {
     let mut answer = second::line(geometry, store, &VERIFIER, line);
-    let counted = count_blocks(geometry, store);
-    answer.extend(format!(" {} {}", counted.used, counted.owed).into_bytes());
+    let surveyed = survey(geometry, store);
+    answer.extend(format!(" {} {}", surveyed.used, surveyed.owed).into_bytes());
     answer
 }
 

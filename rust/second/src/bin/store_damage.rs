@@ -1,7 +1,7 @@
 //! Whole and damaged tables through the store's own calls: the output of `crates/store_damage`,
 //! whose main file says what a line has.
 
-use second::{count_blocks, make_empty, slot, soundness, Geometry, Kind, Store};
+use second::{make_empty, slot, survey, Geometry, Kind, Store};
 
 const SMALL: Geometry = Geometry {
     files: 2,
@@ -180,13 +180,12 @@ fn made() {
 }
 
 fn tell(name: &str, geometry: &Geometry, store: &Store, page: &[u8]) {
-    let number = soundness(geometry, store);
-    let counted = count_blocks(geometry, store);
+    let surveyed = survey(geometry, store);
     println!(
-        "{name} {number} {} {} {}{}",
-        counted.number,
-        counted.used,
-        counted.owed,
+        "{name} {} {} {}{}",
+        surveyed.number,
+        surveyed.used,
+        surveyed.owed,
         shown(geometry, store, page, 0, 0)
     );
 }

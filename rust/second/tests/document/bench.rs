@@ -1,6 +1,6 @@
 //! Requests to send, replies to expect, and a store to try them on.
 
-use second::{count_blocks, serve, soundness, Geometry, Served, Store, REPLY_MIN};
+use second::{serve, survey, Geometry, Served, Store, REPLY_MIN};
 
 pub const ZEROS: [u8; 16] = [0; 16];
 pub const ONES: [u8; 16] = [255; 16];
@@ -252,7 +252,7 @@ impl Bench {
         );
         assert!(buffer[served.written..].iter().all(|&b| b == UNTOUCHED));
         assert!(served.read <= request.len() && served.written <= 27_184);
-        assert_eq!(soundness(&self.geometry, &self.store), 0);
+        assert_eq!(survey(&self.geometry, &self.store).number, 0);
         if served.number != 0 {
             assert_eq!((served.read, served.written), (0, 0));
             assert_eq!(self.store, before);
@@ -295,9 +295,9 @@ impl Bench {
     }
 
     pub fn counts(&self) -> (u64, u64) {
-        let counted = count_blocks(&self.geometry, &self.store);
-        assert_eq!(counted.number, 0);
-        (counted.used, counted.owed)
+        let surveyed = survey(&self.geometry, &self.store);
+        assert_eq!(surveyed.number, 0);
+        (surveyed.used, surveyed.owed)
     }
 
     /// A file's slot words.

@@ -1,8 +1,6 @@
 //! Each refusal of each call, the order among them, and nothing changed.
 
-use second::{
-    count_blocks, make_empty, serve, slot, soundness, Counted, Geometry, Kind, Served, Store,
-};
+use second::{make_empty, serve, slot, survey, Geometry, Kind, Served, Store, Surveyed};
 
 use crate::bench::*;
 
@@ -21,12 +19,8 @@ fn sound() -> Bench {
 /// The number that every call gives, where it can; `make_empty` is tried on a copy.
 fn number_of_all(geometry: &Geometry, store: &Store) -> u32 {
     let zero_page = vec![0; geometry.block_size.min(4096) as usize];
-    let number = soundness(geometry, store);
-    let zeros = if number == 0 { None } else { Some((0, 0)) };
-
-    let counted = count_blocks(geometry, store);
-    assert_eq!(counted.number, number);
-    assert_eq!((counted.used, counted.owed), zeros.unwrap_or((2, 1)));
+    let Surveyed { number, used, owed } = survey(geometry, store);
+    assert_eq!((used, owed), if number == 0 { (2, 1) } else { (0, 0) });
 
     let shown = slot(geometry, store, &zero_page, 2, 0);
     assert_eq!((shown.number, shown.kind), (number, Kind::Hole));
@@ -140,7 +134,7 @@ fn the_ends_of_the_geometry_are_taken() {
         },
     ] {
         let mut store = Store::empty(&geometry);
-        assert_eq!(soundness(&geometry, &store), 0);
+        assert_eq!(survey(&geometry, &store).number, 0);
         store.mem[0] = 1;
         assert_eq!(make_empty(&geometry, &mut store), 0);
         assert_eq!(store, Store::empty(&geometry));
@@ -247,18 +241,18 @@ fn three_only_where_it_is_due() {
         mut store,
     } = sound();
     store.mem[1024..].fill(255);
-    assert_eq!(soundness(&geometry, &store), 0);
+    assert_eq!(survey(&geometry, &store).number, 0);
     store.sizes[2] = 700;
-    assert_eq!(soundness(&geometry, &store), 0);
+    assert_eq!(survey(&geometry, &store).number, 0);
     store.sizes[2] = 512;
     store.words[32] = word(Some(0), false);
-    assert_eq!(soundness(&geometry, &store), 0);
+    assert_eq!(survey(&geometry, &store).number, 0);
     store.sizes[3] = 8192;
-    assert_eq!(soundness(&geometry, &store), 0);
+    assert_eq!(survey(&geometry, &store).number, 0);
     // Nothing is left: used 2 and owed 1 of 3. A shared block without reserve owes nothing.
     assert_eq!(
-        count_blocks(&geometry, &store),
-        Counted {
+        survey(&geometry, &store),
+        Surveyed {
             number: 0,
             used: 2,
             owed: 1

@@ -2,7 +2,7 @@
 
 use std::collections::{BTreeMap, BTreeSet};
 
-use second::{count_blocks, serve, soundness, Geometry, Store, REPLY_MIN};
+use second::{serve, survey, Geometry, Store, REPLY_MIN};
 
 use crate::bench::*;
 
@@ -431,6 +431,7 @@ fn ten_thousand_writes_at_the_largest_tables() {
         let served = serve(&geometry, &mut store, &VERIFIER, &request, &mut buffer);
         assert_eq!((served.number, &buffer[..4]), (0, &[0; 4][..]));
     }
-    assert_eq!(soundness(&geometry, &store), 0);
-    assert!(count_blocks(&geometry, &store).used > 10_000);
+    let surveyed = survey(&geometry, &store);
+    assert_eq!(surveyed.number, 0);
+    assert!(surveyed.used > 10_000);
 }

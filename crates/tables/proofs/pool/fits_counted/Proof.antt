@@ -26,7 +26,17 @@ add-result c =
     let u = c .before in
     let s = u .before .before .before .before .before .before in
     let cs = s .args .counts .now in
-    omega (arith, s .pre .few, s .pre .most, u .used-blocks .ensures, c .owed-slots .ensures, count-most (ltb 0) cs, count-most (owesBy cs) (s .args .words .now))
+    let ws = s .args .words .now in
+    omega (
+      arith,
+      s .pre .few,
+      s .pre .most,
+      u .used-blocks .ensures,
+      c .owed-slots .ensures,
+      count-most (ltb 0) cs,
+      count-most (ltb 0) ws,
+      count-most (owesBy cs) ws,
+    )
 
 returns-2 : tie.Need-returns-2
 returns-2 c =

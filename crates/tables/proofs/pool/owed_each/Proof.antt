@@ -3,7 +3,6 @@ use mathlib.Core.Path.{_≡_}
 use native.Mathlib.Numerals.{add-one}
 use native.Mathlib.Omega.{arith}
 use lib.ListN.{length, drop}
-use borrow.Author.Needs.{needs}
 use Rattle.rules.specs.Lists.{count}
 use Rattle.tables.specs.Tally.{owesBy}
 use Rattle.rules.proofs.CountLaws.{count-drop, count-end, count-most}

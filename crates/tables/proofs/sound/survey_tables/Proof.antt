@@ -16,7 +16,8 @@ used-blocks-requires c κs =
     let i = c .before in
     let t = i .before .before .before .before in
     let s = t .before .before .before .before .before .before in
-    true-table _ _ (s .pre .shaped) (t .test-tables .ensures) (i .if1 .left) .most
+    let k = true-table _ _ (s .pre .shaped) (t .test-tables .ensures) (i .if1 .left) in
+    omega (arith, k .most, k .few)
 
 owed-unless-requires : tie.Need-owed-unless-requires
 owed-unless-requires c κs =

@@ -1,6 +1,6 @@
 use native.Mathlib.Omega.{arith}
 use borrow.Author.Needs.{needs}
-use Rattle.tables.proofs.HeadLaws.{block-some, size-there, size-small, slots-inside, end-inside, head-fits, head-noted}
+use Rattle.tables.proofs.HeadLaws.{block-some, size-small, slots-inside, end-inside, head-fits, head-noted}
 use Rattle.tables.proofs.tally.tally_file.Statement.{statement}
 use Rattle.tables.proofs.tally.tally_file.Tie as tie
 

@@ -1,0 +1,5 @@
+//! Servers in plain Rust that are written for speed.
+
+mod good;
+
+pub use good::Fast::{self, Good, Lean};

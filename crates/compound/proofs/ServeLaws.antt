@@ -25,7 +25,6 @@ use Rattle.rules.proofs.FirstLaws.{all-clear}
 use Rattle.rules.proofs.ItemLaws.{header-reads}
 use Rattle.rules.proofs.AnswerLaws.{header-own}
 use Rattle.rules.proofs.ReplyLaws.{compound-results}
-use Rattle.tables.proofs.SurveyLaws.{judged-table}
 use Rattle.compound.specs.declared.run.Progress.{Progress}
 use Rattle.compound.specs.Runner.{Serves, started, RunsAll, RanAll, ServedRight, refusedWith}
 use Rattle.compound.specs.declared.serving.Served.{Served}
@@ -161,7 +160,7 @@ module _ (g : Geometry) (v s buf : List ℕ) (st : Store) where
 
 -- ---- the judgement of the store
 
-module _ {g : Geometry} {st : Store} {counts₀ counts : List ℕ} {is : Bool} (t : TableReady g st counts₀) (r : TableJudged g st counts₀ is counts) where
+module _ {g : Geometry} {st : Store} {counts₀ counts : List ℕ} {is : Bool} (t : TableReady g st counts₀) (r : TableJudged g st is counts) where
   pub judged-unsound : not is ≡ true → sound g st ≡ false
   judged-unsound e = sym (r .judged) ∙ not-true is e
 
@@ -176,7 +175,7 @@ module _ {g : Geometry} {st : Store} {counts₀ counts : List ℕ} {is : Bool} (
       record {
         shaped = t .shaped;
         sound = judged-sound z;
-        counted = judged-table g st (t .shaped) (record { judged = sym (judged-sound z); table = r .table });
+        counted = r .table (not-false is z);
         blocks = n;
         room = hr;
       }

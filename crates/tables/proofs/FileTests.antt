@@ -126,6 +126,10 @@ module _ {b : ℕ} (pos : 0 < b) (n : ℕ) where
   pub ceil-part : (n % b ≡ 0 → ⊥) → n / b + 1 ≡ ceilDiv n b
   ceil-part d = omega (arith, ceil-odd d)
 
+  -- the slot that n cuts is below its end
+  pub cut-below : (n % b ≡ 0 → ⊥) → n / b < ceilDiv n b
+  cut-below d = omega (arith, ceil-odd d)
+
   -- the slot that n cuts is one of the s slots that n fits in
   pub cut-slot : (s : ℕ) → n ≤ s * b → (n % b ≡ 0 → ⊥) → n / b < s
   cut-slot s h d = omega (arith, ceil-odd d, ceil-le pos n s h)
@@ -139,11 +143,11 @@ pub record FileRoom (g : Geometry) (st : Store) (f : ℕ) : Type 0 where
   pub most : g .S * g .B ≤ 4194304
   pub size : f < length (st .sizes)
   pub slots : f * g .S + g .S ≤ length (st .words)
-  pub block : (k : ℕ) → wordOf g (st .words) f k / 2 * g .B ≤ length (st .mem)
+  pub block : (k : ℕ) → k < ceilDiv (sizeOf st f) (g .B) → wordOf g (st .words) f k / 2 * g .B ≤ length (st .mem)
 
 pub file-room : {g : Geometry} {st : Store} {f : ℕ} → FileKnown g st f → FileRoom g st f
 file-room {g} {st} {f} h =
-    let t = h .tables .shaped in
+    let t = h .shaped in
     let o = good g (t .geometry) in
     let l = lengths g st (t .lengths) in
     record {
@@ -152,7 +156,7 @@ file-room {g} {st} {f} h =
       most = file-most g o;
       size = omega (arith, h .file);
       slots = omega (arith, mul-le-mul-right (g .S) (h .file));
-      block = λ k. omega (arith, mul-le-mul-right (g .B) (h .tables .pool (f * g .S + k)));
+      block = λ k below. omega (arith, mul-le-mul-right (g .B) (h .pool k below));
     }
 
 -- the test of its slots past its size

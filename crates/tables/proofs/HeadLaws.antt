@@ -1,26 +1,28 @@
--- Laws on the table of holders filled file by file: slots past a file's size hold no block.
-use Prim.Native.Nat.{ℕ, suc, _+_, _-_, _*_, _≤_, _<_}
-use mathlib.Core.Path.{_≡_, refl, ap, _∙_}
-use mathlib.Core.Bool.{Bool, false, _||_}
+-- Laws on a file's slots: those past its size hold no block and are not reserved, and what is counted of the others is counted of all.
+use Prim.Native.Nat.{ℕ, suc, _+_, _-_, _*_, _/_, _≤_, _<_}
+use mathlib.Core.Path.{_≡_, refl, sym, ap, _∙_}
+use mathlib.Core.Bool.{Bool, true, false, _||_, true≢false}
 use mathlib.Core.List.{List}
 use native.Mathlib.Nat.{mul-le-mul-right}
 use native.Mathlib.Decide.{decLt}
 use native.Mathlib.Omega.{arith}
-use borrow.Author.Tests.{ne-eqb, eqb-true, le-ltb}
-use lib.ListN.{length, getD, take, drop, length-take, getD-replicate, List·getD-eq-default}
-use lib.Seq.{getD-take, getD-drop, take-take}
-use lib.Dec.{ltb, eqb}
-use Rattle.rules.specs.Lists.{count, ceilDiv}
-use Rattle.rules.specs.Store.{Geometry, holds, holders, wordOf}
+use borrow.Author.Tests.{ne-eqb, eqb-true, le-ltb, leb-true, lt-leb}
+use lib.ListN.{length, getD, take, drop, length-take, length-drop, List·getD-eq-default}
+use lib.Seq.{getD-take, getD-drop, take-take, length-take-le}
+use lib.Dec.{leb, ltb, eqb}
+use Rattle.rules.specs.Lists.{count, allTo, ceilDiv}
+use Rattle.rules.specs.Store.{Geometry, Store, sizeOf, wordOf, isReserved, holds, soundFile}
 use Rattle.rules.specs.Attributes.{slotsOf}
-use Rattle.tables.specs.Tables.{Tallied}
-use Rattle.tables.specs.Tally.{NotesFit, NotedAll, PastZero, FileTalliable, Talliable}
-use Rattle.rules.proofs.CountLaws.{count-parts, count-none-at, count-end, count-most}
-use Rattle.rules.proofs.GeometryLaws.{Good, good, block-pos, file-most, slots-all}
+use Rattle.tables.specs.Tables.{FileKnown}
+use Rattle.tables.specs.Tally.{Scannable, ScannedNoted}
+use Rattle.tables.specs.Survey.{filePasses, FileReady, FileTested}
+use Rattle.rules.proofs.CountLaws.{count-parts, count-none-at}
+use Rattle.rules.proofs.GeometryLaws.{Good, good, block-pos, file-most, lengths}
 use Rattle.rules.proofs.SoundLaws.{allTo-at}
-use Rattle.rules.proofs.PlanLaws.{InPool}
 use Rattle.rules.proofs.SoundStore.{ceil-le}
-use Rattle.tables.proofs.TallyLaws.{holders-from, pool-part}
+use Rattle.xdr.proofs.BoolLaws.{and-false}
+use Rattle.tables.proofs.GroupLaws.{allTo-ext}
+use Rattle.tables.proofs.FileTests.{file-past}
 
 -- what is not counted of the first s elements: from place c on they are 0
 count-head : (p : ℕ → Bool) (c s : ℕ) (l : List ℕ) → c ≤ s → p 0 ≡ false → ((k : ℕ) → c ≤ k → k < s → getD l k 0 ≡ 0)
@@ -36,106 +38,127 @@ count-head p c s l h z e = omega (arith, count-parts p c (take s l), ap (count p
 
 -- ---- one file
 
-module _ {g : Geometry} {sizes ws : List ℕ} (known : PastZero g sizes ws) (f : ℕ) (file : f < g .F) where
+module _ (g : Geometry) (st : Store) (counts : List ℕ) (f : ℕ) (ready : FileReady g st counts f) where
   abbrev end : ℕ
-  end = ceilDiv (getD sizes f 0) (g .B)
+  end = ceilDiv (sizeOf st f) (g .B)
+
+  abbrev at : ℕ
+  at = f * g .S
 
   isGood : Good g
-  isGood = good g (known .geometry)
+  isGood = good g (ready .shaped .geometry)
 
   pub block-some : 0 < g .B
   block-some = block-pos isGood
 
-  pub size-small : getD sizes f 0 ≤ 4194304
-  size-small = omega (arith, known .fits f file, file-most g isGood)
+  pub slots-inside : f * g .S + g .S ≤ length (st .words)
+  slots-inside = omega (arith, lengths g st (ready .shaped .lengths) .slots, mul-le-mul-right (g .S) (ready .file))
 
-  pub slots-inside : f * g .S + g .S ≤ length ws
-  slots-inside = omega (arith, known .slots, mul-le-mul-right (g .S) file)
+  pub size-there : f < length (st .sizes)
+  size-there = omega (arith, lengths g st (ready .shaped .lengths) .files, ready .file)
 
-  pub end-inside : end ≤ g .S
-  end-inside = ceil-le block-some (getD sizes f 0) (g .S) (known .fits f file)
+  pub room-small : g .S * g .B ≤ 4194304
+  room-small = file-most g isGood
 
-  past-zero : (k : ℕ) → end ≤ k → k < g .S → getD (drop (f * g .S) ws) k 0 ≡ 0
-  past-zero k h l =
-      getD-drop (f * g .S) ws k 0
-      ∙ eqb-true (wordOf g ws f k) 0 (rw (le-ltb k end h) at (allTo-at (g .S) (λ j. ltb j end || eqb (wordOf g ws f j) 0) (known .past f file) k l))
+  -- a size that does not fit
+  pub size-fails : g .S * g .B < sizeOf st f → false ≡ filePasses g st f
+  unfolding soundFile
+  size-fails h = rw (lt-leb (sizeOf st f) (g .S * g .B) h, and-false)
 
-  holders-head : (b : ℕ) → holders b (slotsOf g ws f) ≡ holders b (take end (drop (f * g .S) ws))
-  holders-head b = count-head (holds b) end (g .S) (drop (f * g .S) ws) end-inside (ne-eqb 0 (suc b) (λ (e : 0 ≡ suc b). omega arith)) past-zero
+  module _ (fits : sizeOf st f ≤ g .S * g .B) where
+    pub size-small : sizeOf st f ≤ 4194304
+    size-small = omega (arith, room-small)
 
-  -- the slots below its end, as the code takes them
-  abbrev pub headSlots : List ℕ
-  headSlots = take (f * g .S + end - f * g .S) (drop (f * g .S) ws)
+    pub end-inside : ceilDiv (sizeOf st f) (g .B) ≤ g .S
+    end-inside = ceil-le block-some (sizeOf st f) (g .S) fits
 
-  head-is : f * g .S + end - f * g .S ≡ end
-  head-is = omega arith
+    -- the slots below its end, as the code takes them
+    abbrev pub headSlots : List ℕ
+    headSlots = take (f * g .S + ceilDiv (sizeOf st f) (g .B) - f * g .S) (drop (f * g .S) (st .words))
 
-  pub head-fits : {counts : List ℕ} → InPool (length counts) ws → NotesFit (slotsOf g ws f) counts → NotesFit headSlots counts
-  unfolding head-is
-  head-fits {counts} pool h = record {
-    pool = pool-part (length counts) (f * g .S + end - f * g .S) (f * g .S) ws pool;
-    few = λ b k. rw head-is (omega (arith, h .few b k, holders-head b));
-    short = omega (arith, length-take (f * g .S + end - f * g .S) (drop (f * g .S) ws), end-inside, isGood .slots-most);
-  }
+    head-is : f * g .S + ceilDiv (sizeOf st f) (g .B) - f * g .S ≡ ceilDiv (sizeOf st f) (g .B)
+    head-is = omega arith
 
-  pub head-noted : {before after : List ℕ} → NotedAll headSlots before after → NotedAll (slotsOf g ws f) before after
-  unfolding head-is
-  head-noted t = record { long = t .long; each = λ b k. rw (holders-head b) (rw head-is at (t .each b k)) }
+    head-long : length headSlots ≡ ceilDiv (sizeOf st f) (g .B)
+    unfolding head-is
+    head-long =
+        rw head-is
+        (length-take-le (ceilDiv (sizeOf st f) (g .B)) (drop (f * g .S) (st .words)) (rw (length-drop (f * g .S) (st .words)) (omega (arith, slots-inside, end-inside))))
 
--- ---- all files
+    head-at : (k : ℕ) → k < ceilDiv (sizeOf st f) (g .B) → getD headSlots k 0 ≡ wordOf g (st .words) f k
+    unfolding head-is
+    head-at k l =
+        rw head-is (getD-take (ceilDiv (sizeOf st f) (g .B)) (drop (f * g .S) (st .words)) k 0 l ∙ getD-drop (f * g .S) (st .words) k 0)
 
--- the first f files noted
-pub record Tallying (g : Geometry) (ws before counts : List ℕ) (f : ℕ) : Type 0 where
-  pub within : f ≤ g .F
-  pub long : length counts ≡ length before
-  pub each : (b : ℕ) → b < length before → getD counts b 0 + holders b (drop (f * g .S) ws) ≡ holders b ws
+    -- no more of them are counted than of all slots
+    head-few : (p : ℕ → Bool) → count p headSlots ≤ count p (slotsOf g (st .words) f)
+    unfolding head-is
+    head-few p =
+        rw head-is
+        (omega (
+          arith,
+          count-parts p (ceilDiv (sizeOf st f) (g .B)) (slotsOf g (st .words) f),
+          ap (count p) (take-take (ceilDiv (sizeOf st f) (g .B)) (g .S) (drop (f * g .S) (st .words)) end-inside),
+        ))
 
-module _ {g : Geometry} {sizes ws before : List ℕ} (start : Talliable g sizes ws before) where
-  zero-at : (b : ℕ) → b < length before → getD before b 0 ≡ 0
-  zero-at b h = ap (λ (l : List ℕ). getD l b 0) (start .zeros) ∙ getD-replicate (length before) b 0 0 h
-
-  pub tallying-none : Tallying g ws before before 0
-  tallying-none = record {
-    within = omega arith;
-    long = refl;
-    each = λ b h. let e : 0 * g .S ≡ 0 = omega arith in rw e (omega (arith, zero-at b h));
-  }
-
-  module _ {counts : List ℕ} {f : ℕ} (t : Tallying g ws before counts f) (file : f < g .F) where
-    -- the file's slots, and those of the files behind
-    split : (b : ℕ) → holders b (slotsOf g ws f) + holders b (drop ((f + 1) * g .S) ws) ≡ holders b (drop (f * g .S) ws)
-    split b = let e : (f + 1) * g .S ≡ f * g .S + g .S = omega arith in rw e (holders-from b (f * g .S) (g .S) ws)
-
-    pub file-talliable : FileTalliable g sizes ws counts f
-    file-talliable = record {
-      past = start .past;
-      file = file;
-      pool = rw (t .long) (start .pool);
-      fits = record {
-        pool = pool-part (length counts) (g .S) (f * g .S) ws (rw (t .long) (start .pool));
-        few = λ b h.
-            omega (
-              arith,
-              split b,
-              t .each b (omega (arith, t .long)),
-              count-most (holds b) ws,
-              start .past .slots,
-              slots-all g (good g (start .past .geometry)),
-            );
-        short = omega (arith, length-take (g .S) (drop (f * g .S) ws), good g (start .past .geometry) .slots-most);
-      };
+    -- what `scan_and_note` asks
+    pub scannable : Scannable headSlots counts
+    scannable = record {
+      blocks = rw (ready .long) (isGood .blocks-most);
+      short = omega (arith, head-long, end-inside, isGood .slots-most);
+      few = λ b h. omega (arith, ready .few b h, head-few (holds b));
     }
 
-    pub tallying-more : {after : List ℕ} → NotedAll (slotsOf g ws f) counts after → Tallying g ws before after (f + 1)
-    tallying-more n = record {
-      within = omega (arith, file);
-      long = n .long ∙ t .long;
-      each = λ b h. omega (arith, n .each b (omega (arith, t .long)), split b, t .each b h);
-    }
+    -- the scan's test of them
+    module _ {formed : Bool} {held reserved : ℕ} {after : List ℕ} (scan : ScannedNoted headSlots counts formed held reserved after) where
+      formed-is : formed ≡ allTo (ceilDiv (sizeOf st f) (g .B)) (λ k. leb (wordOf g (st .words) f k / 2) (g .N))
+      formed-is =
+          scan .scanned .formed-is
+          ∙ ap (λ (n : ℕ). allTo n (λ i. leb (getD headSlots i 0 / 2) (length counts))) head-long
+          ∙ allTo-ext (ceilDiv (sizeOf st f) (g .B)) _ _ (λ k l. rw (head-at k l, ready .long))
 
-  pub tallying-all : {counts : List ℕ} {f : ℕ} → Tallying g ws before counts f → g .F ≤ f → Tallied ws counts
-  tallying-all {counts} {f} t l = record {
-    each = λ b h.
-        let e : f ≡ g .F = omega (arith, t .within) in
-        omega (arith, t .each b (omega (arith, t .long)), count-end (holds b) ws (f * g .S) (rw e (omega (arith, start .past .slots))));
-  }
+      pub words-fail : formed ≡ false → false ≡ filePasses g st f
+      words-fail e = rw (sym formed-is ∙ e)
+
+      module _ (ok : formed ≡ true) where
+        pub file-known : FileKnown g st f
+        file-known = record {
+          shaped = ready .shaped;
+          file = ready .file;
+          pool = λ k l.
+              leb-true (wordOf g (st .words) f k / 2) (g .N)
+              (allTo-at (ceilDiv (sizeOf st f) (g .B)) (λ k. leb (wordOf g (st .words) f k / 2) (g .N)) (sym formed-is ∙ ok) k l);
+        }
+
+        module _ {t : Bool} (is : t ≡ soundFile g st f) where
+          pub sound-fails : t ≡ false → false ≡ filePasses g st f
+          sound-fails e = rw (sym is ∙ e, and-false)
+
+          module _ (fine : t ≡ true) where
+            past-zero : (k : ℕ) → ceilDiv (sizeOf st f) (g .B) ≤ k → k < g .S → getD (drop (f * g .S) (st .words)) k 0 ≡ 0
+            past-zero k h l =
+                getD-drop (f * g .S) (st .words) k 0
+                ∙ eqb-true (wordOf g (st .words) f k) 0
+                (rw (le-ltb k (ceilDiv (sizeOf st f) (g .B)) h) at
+                (allTo-at (g .S) (λ j. ltb j (ceilDiv (sizeOf st f) (g .B)) || eqb (wordOf g (st .words) f j) 0) (file-past g st f (sym is ∙ fine)) k l))
+
+            head-counts : (p : ℕ → Bool) → p 0 ≡ false → count p (slotsOf g (st .words) f) ≡ count p headSlots
+            unfolding head-is
+            head-counts p z = rw head-is (count-head p (ceilDiv (sizeOf st f) (g .B)) (g .S) (drop (f * g .S) (st .words)) end-inside z past-zero)
+
+            pub file-passes : FileTested g st counts f true held reserved after
+            file-passes = record {
+              pass-is = rw (sym formed-is ∙ ok, sym is ∙ fine);
+              counted = λ e. record {
+                noted = record {
+                  long = scan .noted ok .long;
+                  each = λ b h. scan .noted ok .each b h ∙ ap (λ (n : ℕ). getD counts b 0 + n) (sym (head-counts (holds b) (ne-eqb 0 (suc b) (λ (q : 0 ≡ suc b). omega arith))));
+                };
+                held-is = scan .scanned .held-is ∙ sym (head-counts (ltb 1) refl);
+                reserved-is = scan .scanned .reserved-is ∙ sym (head-counts isReserved refl);
+              };
+            }
+
+  -- a file that does not pass
+  pub file-fails : {after : List ℕ} → false ≡ filePasses g st f → FileTested g st counts f false 0 0 after
+  file-fails e = record { pass-is = e; counted = λ q. absurd (true≢false (sym q)) }

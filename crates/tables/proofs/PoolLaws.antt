@@ -14,7 +14,7 @@ use lib.Dec.{leb, ltb}
 use Rattle.rules.specs.Lists.{bit, count, sumTo, countTo, allTo}
 use Rattle.rules.specs.Store.{isHole, isReserved, isShared, holders, blockBound, used, owes, owed, need, fitsPool, lowestFree}
 use Rattle.tables.specs.Tables.{Tallied, TableTrue}
-use Rattle.tables.specs.Tally.{noneReserved, takesBy, owesBy, InTable, OwedFrom, firstZero, HeldFrom}
+use Rattle.tables.specs.Tally.{takesBy, owesBy, InTable, OwedFrom, firstZero, HeldFrom}
 use Rattle.tables.specs.declared.groups.Sort.{Sort}
 use Rattle.tables.specs.Groups.{ofSort, groupAt, groupAll}
 use Rattle.rules.proofs.CountLaws.{sumTo-ext, count-drop, count-parts, count-none-at, count-most}
@@ -148,7 +148,7 @@ module _ (ws cs : List ℕ) (i : ℕ) where
 pub none-owed : (cs l : List ℕ) → count isReserved l ≡ 0 → count (owesBy cs) l ≡ 0
 none-owed cs l e = omega (arith, e, count-right (takesBy cs) isReserved l)
 
-pub none-reserved : (l : List ℕ) → noneReserved l ≡ true → count isReserved l ≡ 0
+pub none-reserved : (l : List ℕ) → allTo (length l) (λ j. not (isReserved (getD l j 0))) ≡ true → count isReserved l ≡ 0
 none-reserved l e = count-none-at isReserved l (λ i. go i (decLt i (length l)))
   where
     go : (i : ℕ) → Dec (i < length l) → isReserved (getD l i 0) ≡ false
@@ -205,9 +205,9 @@ module _ {ws cs : List ℕ} (known : TableTrue ws cs) where
   true-used = tallied-used ws cs (known .table) (known .pool)
 
   -- nothing reserved
-  pub fits-unreserved : noneReserved ws ≡ true → true ≡ fitsPool (length cs) ws
+  pub fits-unreserved : count isReserved ws ≡ 0 → true ≡ fitsPool (length cs) ws
   fits-unreserved e =
-      sym (le-leb (need ws) (length cs) (omega (arith, none-reserved ws e, owed-reserved ws, true-used, count-most (ltb 0) cs)))
+      sym (le-leb (need ws) (length cs) (omega (arith, e, owed-reserved ws, true-used, count-most (ltb 0) cs)))
 
   -- few slots
   pub fits-bound : count (ltb 1) ws + count isReserved ws ≤ length cs → true ≡ fitsPool (length cs) ws

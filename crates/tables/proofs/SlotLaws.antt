@@ -4,7 +4,7 @@ use mathlib.Core.Path.{_≡_, refl, sym, ap, _∙_}
 use mathlib.Core.Bool.{Bool, true, false, cond, _&&_, not, true≢false}
 use mathlib.Core.List.{List, []}
 use mathlib.Core.Logic.{_≢_}
-use native.Mathlib.Nat.{add-sub-cancel-left, zero-add}
+use native.Mathlib.Nat.{add-sub-cancel-left, zero-add, mul-le-mul-right}
 use native.Mathlib.Numerals.{sub-one}
 use native.Mathlib.Omega.{arith}
 use lib.ListN.{length, getD, take, drop}
@@ -20,8 +20,8 @@ use Rattle.tables.specs.View.{PlacePromise, ViewPromise}
 use Rattle.xdr.proofs.BoolLaws.{and-left, and-right, not-is}
 use Rattle.rules.proofs.FirstLaws.{all-clear}
 use Rattle.rules.proofs.SoundLaws.{sound-facts}
-use Rattle.rules.proofs.GeometryLaws.{good, block-pos}
-use Rattle.tables.proofs.FileTests.{FileRoom, file-room, block-end}
+use Rattle.rules.proofs.GeometryLaws.{good, block-pos, lengths}
+use Rattle.tables.proofs.FileTests.{block-end}
 
 -- what a store's refusal number says
 pub data Verdict (g : Geometry) (st : Store) : ℕ → Type 0 where
@@ -90,6 +90,11 @@ module _ (g : Geometry) (st : Store) where
 
 -- ---- the slot's refusal
 
+-- a file's slots lie among the words, and their blocks in the memory
+pub record SlotRoom (g : Geometry) (st : Store) (f : ℕ) : Type 0 where
+  pub slots : f * g .S + g .S ≤ length (st .words)
+  pub block : (k : ℕ) → wordOf g (st .words) f k / 2 * g .B ≤ length (st .mem)
+
 module _ (g : Geometry) (st : Store) (page : List ℕ) (f k : ℕ) where
   abbrev clean : Bool
   clean = allTo (length page) (λ j. eqb (getD page j 0) 0)
@@ -152,10 +157,14 @@ module _ (g : Geometry) (st : Store) (page : List ℕ) (f k : ℕ) where
         slot = ltb-true k (g .S) (and-right (ltb f (g .F)) (ltb k (g .S)) eight);
       }
 
-  pub slot-room : SlotKnown → FileRoom g st f
+  pub slot-room : SlotKnown → SlotRoom g st f
   slot-room h =
       let s = sound-facts g (block-pos (good g (h .shaped .geometry))) st (h .shaped .lengths) (h .sound) in
-      file-room (record { tables = record { shaped = h .shaped; pool = s .pool }; file = h .file })
+      let l = lengths g st (h .shaped .lengths) in
+      record {
+        slots = omega (arith, l .slots, mul-le-mul-right (g .S) (h .file));
+        block = λ k. omega (arith, l .bytes, mul-le-mul-right (g .B) (s .pool (f * g .S + k)));
+      }
 
   -- ---- where the part lies
 

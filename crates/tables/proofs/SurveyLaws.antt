@@ -1,111 +1,197 @@
 -- The survey: what its tests and counts say of a store.
-use Prim.Native.Nat.{ℕ, zero, suc, _+_, _*_, _/_, _≤_, _<_}
-use mathlib.Core.Path.{_≡_, refl, sym, ap, _∙_}
-use mathlib.Core.Bool.{Bool, true, false, not, _&&_}
+use Prim.Native.Nat.{ℕ, zero, suc, _+_, _*_, _/_, _%_, _≤_, _<_}
+use mathlib.Core.Path.{_≡_, refl, sym, ap, subst, _∙_}
+use mathlib.Core.Bool.{Bool, true, false, not, _&&_, true≢false}
 use mathlib.Core.List.{List, _∷_}
-use native.Mathlib.Nat.{zero-add, le-of-suc-le-suc}
+use native.Mathlib.Nat.{le-of-suc-le-suc, div-add-mod', mod-lt, mul-le-mul-right}
 use native.Mathlib.Decide.{decLt}
+use native.Mathlib.Numerals.{add-one}
 use native.Mathlib.Omega.{arith}
-use lib.ListN.{length, getD, take, replicate, length-replicate, List·getD-eq-default}
-use lib.Seq.{ext-getD}
+use lib.ListN.{length, getD, take, drop, replicate, length-replicate, getD-replicate}
 use lib.Dec.{leb, ltb}
-use borrow.Author.Tests.{leb-true, le-leb, lt-leb, not-true, not-false}
-use Rattle.rules.specs.Lists.{allTo, count, tabulate}
-use Rattle.rules.specs.Store.{Geometry, Store, holders, used, owed, fitsPool, soundFile, sound}
-use Rattle.tables.specs.Tables.{Shaped, Pooled, Tallied, TableTrue}
-use Rattle.tables.specs.Tally.{noneReserved, Scanned, Talliable, owesBy, OwedKnown}
-use Rattle.tables.specs.Survey.{TableReady, TableFits, tablesPass, tableAfter, TableTested, TableJudged, TableSurveyed}
-use Rattle.rules.proofs.CountLaws.{count-most}
-use Rattle.rules.proofs.GeometryLaws.{good, slots-all, lengths}
-use Rattle.rules.proofs.SoundLaws.{allTo-at}
-use Rattle.rules.proofs.SlotByteLaws.{length-tab, getD-tab}
-use Rattle.tables.proofs.PoolLaws.{tallied-used, tallied-owed, looked-up, fits-unreserved}
+use borrow.Author.Tests.{le-leb, lt-leb, le-ltb, eqb-true, not-true, not-false}
+use Rattle.rules.specs.Lists.{allTo, count, ceilDiv}
+use Rattle.rules.specs.Store.{Geometry, Store, sizeOf, wordOf, isReserved, holds, holders, used, owed, fitsPool, soundFile, sound}
+use Rattle.rules.specs.Attributes.{slotsOf}
+use Rattle.rules.specs.Calls.{SurveyPromise}
+use Rattle.tables.specs.Tables.{Shaped, TableTrue}
+use Rattle.tables.specs.Tally.{owesBy, OwedKnown, RoomKnown}
+use Rattle.tables.specs.Survey.{TableReady, TableFits, tablesPass, filePasses, FileReady, FileTested, TableTested, TableJudged}
+use Rattle.rules.proofs.CountLaws.{count-most, count-end}
+use Rattle.rules.proofs.GeometryLaws.{good, block-pos, slots-all, lengths}
+use Rattle.rules.proofs.SoundLaws.{allTo-at, allTo-all}
+use Rattle.rules.proofs.SoundStore.{ceil-le}
+use Rattle.rules.proofs.PlanLaws.{InPool}
+use Rattle.xdr.proofs.BoolLaws.{and-left, and-right, and-both}
+use Rattle.tables.proofs.TallyLaws.{count-from, formed-pool}
+use Rattle.tables.proofs.PoolLaws.{allTo-fails, tallied-used, tallied-owed, looked-up}
 use Rattle.tables.proofs.CallLaws.{survey-unsound, survey-sound}
 use Rattle.tables.proofs.FileTests.{file-fits, file-past}
-use Rattle.rules.proofs.PlanLaws.{InPool}
-use Rattle.xdr.proofs.BoolLaws.{and-left, and-right}
 
--- a true table is the list of the blocks' holders
-tallied-is : (ws after : List ℕ) (n : ℕ) → Tallied ws after → length after ≡ n → after ≡ tabulate (λ b. holders b ws) 0 n
-tallied-is ws after n t e =
-    let long : length (tabulate (λ b. holders b ws) 0 n) ≡ n = length-tab (λ b. holders b ws) n 0 in
-    ext-getD 0 after (tabulate (λ b. holders b ws) 0 n) (e ∙ sym long)
-    (λ b h. t .each b h ∙ ap (λ (x : ℕ). holders x ws) (sym (zero-add b)) ∙ sym (getD-tab (λ b. holders b ws) n 0 b (omega (arith, e))))
+-- ---- the tests, file by file
 
--- the first n of a longer row of zeros
-take-replicate : (n m : ℕ) → n ≤ m → _≡_ {A = List ℕ} (take n (replicate m 0)) (replicate n 0)
-take-replicate zero m h = refl
-take-replicate (suc n) zero h = absurd (omega arith)
-take-replicate (suc n) (suc m) h = ap (λ (l : List ℕ). 0 ∷ l) (take-replicate n m (le-of-suc-le-suc h))
+same-tests : (a b : Bool) → (a ≡ true → b ≡ true) → (b ≡ true → a ≡ true) → a ≡ b
+same-tests true b f g = sym (f refl)
+same-tests false true f g = g refl
+same-tests false false f g = refl
 
--- words that pass their test name blocks of the pool
-formed-pool : (n m : ℕ) (ws : List ℕ) → length ws ≡ n → allTo n (λ i. leb (getD ws i 0 / 2) m) ≡ true → InPool m ws
-formed-pool n m ws l e p = go (decLt p n)
-  where
-    go : Dec (p < n) → getD ws p 0 / 2 ≤ m
-    go (yes h) = leb-true (getD ws p 0 / 2) m (allTo-at n (λ i. leb (getD ws i 0 / 2) m) e p h)
-    go (no d) = rw (List·getD-eq-default ws 0 {n = p} (omega (arith, d, l))) (omega arith)
+module _ (g : Geometry) (st : Store) (h : Shaped g st) where
+  abbrev formedAll : Bool
+  formedAll = allTo (g .F * g .S) (λ i. leb (getD (st .words) i 0 / 2) (g .N))
 
--- ---- the tests but for the room
+  abbrev formedHead : ℕ → Bool
+  formedHead f = allTo (ceilDiv (sizeOf st f) (g .B)) (λ k. leb (wordOf g (st .words) f k / 2) (g .N))
 
-module _ (g : Geometry) (st : Store) (counts : List ℕ) (r : TableReady g st counts) where
-  long : length counts ≡ g .N
-  long = ap length (r .zero) ∙ length-replicate (g .N) 0
+  -- each word is one of a file: below its end it was tested, behind it is 0
+  word-formed : ((f : ℕ) → f < g .F → filePasses g st f ≡ true) → (i : ℕ) → i < g .F * g .S → leb (getD (st .words) i 0 / 2) (g .N) ≡ true
+  word-formed all i l = subst (λ (n : ℕ). leb (getD (st .words) n 0 / 2) (g .N) ≡ true) split (go (decLt (i % g .S) (ceilDiv (sizeOf st (i / g .S)) (g .B))))
+    where
+      pos : 0 < g .S
+      pos = good g (h .geometry) .slots
 
-  -- the answers of the scan and of the files' test
-  module _ {a n : Bool} (scan : Scanned (st .words) (g .N) a n) where
-    formed : allTo (g .F * g .S) (λ i. leb (getD (st .words) i 0 / 2) (g .N)) ≡ a
-    formed = ap (λ (k : ℕ). allTo k (λ i. leb (getD (st .words) i 0 / 2) (g .N))) (sym (lengths g st (r .shaped .lengths) .slots)) ∙ sym (scan .formed-is)
+      split : i / g .S * g .S + i % g .S ≡ i
+      split = div-add-mod' i (g .S)
 
-    failed : tablesPass g st ≡ false → TableTested g st counts false false counts
-    unfolding tableAfter
-    failed e = record { pass-is = sym e; unreserved-is = rw e; table = rw e }
+      file : i / g .S < g .F
+      file = below (decLt (i / g .S) (g .F))
+        where
+          below : Dec (i / g .S < g .F) → i / g .S < g .F
+          below (yes k) = k
+          below (no d) =
+              let past : g .F ≤ i / g .S = omega (arith, d) in
+              absurd (omega (arith, mul-le-mul-right (g .S) past, split))
 
-    pub words-fail : not a ≡ true → TableTested g st counts false false counts
-    unfolding tablesPass
-    words-fail h = failed (rw (formed ∙ not-true a h))
+      go : Dec (i % g .S < ceilDiv (sizeOf st (i / g .S)) (g .B)) → leb (wordOf g (st .words) (i / g .S) (i % g .S) / 2) (g .N) ≡ true
+      go (yes k) = allTo-at (ceilDiv (sizeOf st (i / g .S)) (g .B)) _ (and-left (formedHead (i / g .S)) (soundFile g st (i / g .S)) (all (i / g .S) file)) (i % g .S) k
+      go (no d) =
+          let zero : wordOf g (st .words) (i / g .S) (i % g .S) ≡ 0 =
+          eqb-true (wordOf g (st .words) (i / g .S) (i % g .S)) 0
+          (rw (le-ltb (i % g .S) (ceilDiv (sizeOf st (i / g .S)) (g .B)) (omega (arith, d))) at
+          (allTo-at (g .S) _ (file-past g st (i / g .S) (and-right (formedHead (i / g .S)) (soundFile g st (i / g .S)) (all (i / g .S) file))) (i % g .S) (mod-lt i pos))) in
+          rw zero (le-leb 0 (g .N) (omega arith))
 
-    module _ (ok : not a ≡ false) where
-      pool : InPool (g .N) (st .words)
-      pool = formed-pool (length (st .words)) (g .N) (st .words) refl (sym (scan .formed-is) ∙ not-false a ok)
+  head-formed : tablesPass g st ≡ true → (f : ℕ) → f < g .F → filePasses g st f ≡ true
+  unfolding tablesPass
+  head-formed e f l =
+      let is : soundFile g st f ≡ true = allTo-at (g .F) (soundFile g st) (and-right formedAll (allTo (g .F) (soundFile g st)) e) f l in
+      and-both (formedHead f) (soundFile g st f)
+      (allTo-all (ceilDiv (sizeOf st f) (g .B)) _ (λ k m.
+      allTo-at (g .F * g .S) (λ i. leb (getD (st .words) i 0 / 2) (g .N)) (and-left formedAll (allTo (g .F) (soundFile g st)) e) (f * g .S + k)
+      (omega (arith, ceil-le (block-pos (good g (h .geometry))) (sizeOf st f) (g .S) (file-fits g st f is), mul-le-mul-right (g .S) l))))
+      is
 
-      pub pooled : Pooled g st
-      pooled = record { shaped = r .shaped; pool = pool }
+  pub pass-files : tablesPass g st ≡ allTo (g .F) (filePasses g st)
+  unfolding tablesPass
+  pass-files =
+      same-tests (tablesPass g st) (allTo (g .F) (filePasses g st))
+      (λ e. allTo-all (g .F) (filePasses g st) (head-formed e))
+      (λ e.
+      let all = allTo-at (g .F) (filePasses g st) e in
+      and-both formedAll (allTo (g .F) (soundFile g st)) (allTo-all (g .F * g .S) _ (word-formed all))
+      (allTo-all (g .F) (soundFile g st) (λ f l. and-right (formedHead f) (soundFile g st f) (all f l))))
 
-      module _ (b : Bool) (filesAre : b ≡ allTo (g .F) (soundFile g st)) where
-        pub files-fail : not b ≡ true → TableTested g st counts false false counts
-        unfolding tablesPass
-        files-fail h = failed (rw (formed ∙ not-false a ok, sym filesAre ∙ not-true b h))
+passed-words : (g : Geometry) (st : Store) → tablesPass g st ≡ true → allTo (g .F * g .S) (λ i. leb (getD (st .words) i 0 / 2) (g .N)) ≡ true
+unfolding tablesPass
+passed-words g st e = and-left (allTo (g .F * g .S) (λ i. leb (getD (st .words) i 0 / 2) (g .N))) (allTo (g .F) (soundFile g st)) e
 
-        module _ (fine : not b ≡ false) where
-          passes : tablesPass g st ≡ true
-          unfolding tablesPass
-          passes = rw (formed ∙ not-false a ok, sym filesAre ∙ not-false b fine)
+-- the first f files have passed and are counted
+pub record Testing (g : Geometry) (st : Store) (counts : List ℕ) (f held reserved : ℕ) : Type 0 where
+  pub within : f ≤ g .F
+  pub long : length counts ≡ g .N
+  pub passed : allTo f (filePasses g st) ≡ true
+  pub each : (b : ℕ) → b < length counts → getD counts b 0 + holders b (drop (f * g .S) (st .words)) ≡ holders b (st .words)
+  pub held-rest : held + count (ltb 1) (drop (f * g .S) (st .words)) ≡ count (ltb 1) (st .words)
+  pub reserved-rest : reserved + count isReserved (drop (f * g .S) (st .words)) ≡ count isReserved (st .words)
 
-          sound-at : (f : ℕ) → f < g .F → soundFile g st f ≡ true
-          sound-at = allTo-at (g .F) (soundFile g st) (sym filesAre ∙ not-false b fine)
+pub ready-long : (g : Geometry) (st : Store) (counts : List ℕ) → TableReady g st counts → length counts ≡ g .N
+ready-long g st counts r = ap length (r .zero) ∙ length-replicate (g .N) 0
 
-          -- what `tally_files` asks
-          pub talliable : Talliable g (st .sizes) (st .words) counts
-          talliable = record {
-            past = record {
-              geometry = r .shaped .geometry;
-              files = lengths g st (r .shaped .lengths) .files;
-              slots = lengths g st (r .shaped .lengths) .slots;
-              fits = λ f h. file-fits g st f (sound-at f h);
-              past = λ f h. file-past g st f (sound-at f h);
-            };
-            pool = rw long pool;
-            zeros = r .zero ∙ ap (λ (n : ℕ). replicate n 0) (sym long);
+pub testing-none : (g : Geometry) (st : Store) (counts : List ℕ) → TableReady g st counts → Testing g st counts 0 0 0
+testing-none g st counts r =
+    let e : 0 * g .S ≡ 0 = omega arith in
+    let long : length counts ≡ g .N = ready-long g st counts r in
+    record {
+      within = omega arith;
+      long = long;
+      passed = refl;
+      each = λ b h. rw e (omega (arith, ap (λ (l : List ℕ). getD l b 0) (r .zero) ∙ getD-replicate (g .N) b 0 0 (omega (arith, long))));
+      held-rest = rw e (omega arith);
+      reserved-rest = rw e (omega arith);
+    }
+
+module _ {g : Geometry} {st : Store} {counts : List ℕ} {f held reserved : ℕ} (h : Shaped g st) (t : Testing g st counts f held reserved) where
+  most-words : length (st .words) ≤ 65536
+  most-words = omega (arith, lengths g st (h .lengths) .slots, slots-all g (good g (h .geometry)))
+
+  -- the file's slots, and those of the files behind
+  split : (p : ℕ → Bool) → count p (slotsOf g (st .words) f) + count p (drop ((f + 1) * g .S) (st .words)) ≡ count p (drop (f * g .S) (st .words))
+  split p = let e : (f + 1) * g .S ≡ f * g .S + g .S = omega arith in rw e (count-from p (f * g .S) (g .S) (st .words))
+
+  pub held-small : held ≤ 65536
+  held-small = omega (arith, t .held-rest, count-most (ltb 1) (st .words), most-words)
+
+  pub reserved-small : reserved ≤ 65536
+  reserved-small = omega (arith, t .reserved-rest, count-most isReserved (st .words), most-words)
+
+  pub file-ready : f < g .F → FileReady g st counts f
+  file-ready l = record {
+    shaped = h;
+    file = l;
+    long = t .long;
+    few = λ b k. omega (arith, split (holds b), t .each b k, count-most (holds b) (st .words), most-words);
+  }
+
+  module _ (l : f < g .F) {pass : Bool} {more too : ℕ} {after : List ℕ} (r : FileTested g st counts f pass more too after) where
+    pub testing-fails : pass ≡ false → {last : List ℕ} → TableTested g st false 0 0 last
+    testing-fails e = record {
+      pass-is = sym (pass-files g st h ∙ allTo-fails (g .F) f (filePasses g st) l (sym (r .pass-is) ∙ e));
+      room = λ q. absurd (true≢false (sym q));
+    }
+
+    module _ (ok : pass ≡ true) where
+      pub more-small : more ≤ 65536
+      more-small = omega (arith, r .counted ok .held-is, split (ltb 1), t .held-rest, count-most (ltb 1) (st .words), most-words)
+
+      pub too-small : too ≤ 65536
+      too-small = omega (arith, r .counted ok .reserved-is, split isReserved, t .reserved-rest, count-most isReserved (st .words), most-words)
+
+      pub testing-more : Testing g st after (f + 1) (held + more) (reserved + too)
+      testing-more =
+          let n = r .counted ok .noted in
+          record {
+            within = omega (arith, l);
+            long = n .long ∙ t .long;
+            passed = rw (add-one f) (and-both (filePasses g st f) (allTo f (filePasses g st)) (sym (r .pass-is) ∙ ok) (t .passed));
+            each = λ b k.
+                let m : b < length counts = omega (arith, n .long) in
+                omega (arith, n .each b m, split (holds b), t .each b m);
+            held-rest = omega (arith, r .counted ok .held-is, split (ltb 1), t .held-rest);
+            reserved-rest = omega (arith, r .counted ok .reserved-is, split isReserved, t .reserved-rest);
           }
 
-          pub tested : {after : List ℕ} → length after ≡ length counts → Tallied (st .words) after → TableTested g st counts true n after
-          unfolding tableAfter
-          tested {after} kept table = record {
-            pass-is = sym passes;
-            unreserved-is = scan .unreserved-is ∙ rw passes;
-            table = rw passes (tallied-is (st .words) after (g .N) table (kept ∙ long));
-          }
+  pub testing-all : g .F ≤ f → TableTested g st true held reserved counts
+  testing-all l =
+      let e : f ≡ g .F = omega (arith, t .within) in
+      let none : (p : ℕ → Bool) → count p (drop (f * g .S) (st .words)) ≡ 0
+      = λ p. count-end p (st .words) (f * g .S) (rw e (omega (arith, lengths g st (h .lengths) .slots))) in
+      let passes : tablesPass g st ≡ true = pass-files g st h ∙ rw e at (t .passed) in
+      record {
+        pass-is = sym passes;
+        room = λ q. record {
+          counted = record {
+            table = record { each = λ b k. omega (arith, t .each b k, none (holds b)) };
+            pool = rw (t .long) (pass-pool passes);
+            few = most-words;
+            some = rw (t .long) (good g (h .geometry) .blocks);
+            most = rw (t .long) (good g (h .geometry) .blocks-most);
+          };
+          held-is = omega (arith, t .held-rest, none (ltb 1));
+          reserved-is = omega (arith, t .reserved-rest, none isReserved);
+        };
+      }
+    where
+      pass-pool : tablesPass g st ≡ true → InPool (g .N) (st .words)
+      pass-pool q = formed-pool (g .F * g .S) (g .N) (st .words) (lengths g st (h .lengths) .slots) (passed-words g st q)
 
 -- ---- the room
 
@@ -114,64 +200,33 @@ sound-parts : (g : Geometry) (st : Store) → sound g st ≡ (tablesPass g st &&
 unfolding sound tablesPass
 sound-parts g st = refl
 
-module _ (g : Geometry) (st : Store) {counts after : List ℕ} {pass unreserved : Bool} (h : Shaped g st) (t : TableTested g st counts pass unreserved after) where
+module _ (g : Geometry) (st : Store) {after : List ℕ} {pass : Bool} {held reserved : ℕ} (h : Shaped g st) (long : length after ≡ g .N) (t : TableTested g st pass held reserved after) where
   module _ (fails : not pass ≡ true) where
     not-sound : sound g st ≡ false
     not-sound = sound-parts g st ∙ rw (sym (t .pass-is) ∙ not-true pass fails)
 
-    pub judge-fails : TableJudged g st counts false after
-    judge-fails = record { judged = sym not-sound; table = t .table }
+    pub judge-fails : TableJudged g st false after
+    judge-fails = record { judged = sym not-sound; table = λ q. absurd (true≢false (sym q)) }
 
-    pub survey-fails : TableSurveyed g st counts 3 0 0 after
-    survey-fails = record { promise = survey-unsound g st h not-sound; table = t .table }
+    pub survey-fails : SurveyPromise g st 3 0 0
+    survey-fails = survey-unsound g st h not-sound
 
   module _ (passes : not pass ≡ false) where
-    passed : tablesPass g st ≡ true
-    passed = sym (t .pass-is) ∙ not-false pass passes
-
-    after-is : after ≡ tabulate (λ b. holders b (st .words)) 0 (g .N)
-    unfolding tableAfter
-    after-is = t .table ∙ rw passed
-
-    after-long : length after ≡ g .N
-    after-long = ap length after-is ∙ length-tab (λ b. holders b (st .words)) (g .N) 0
-
     sound-is : sound g st ≡ fitsPool (g .N) (st .words)
-    sound-is = sound-parts g st ∙ rw passed
+    sound-is = sound-parts g st ∙ rw (sym (t .pass-is) ∙ not-false pass passes)
 
-    in-pool : InPool (g .N) (st .words)
-    unfolding tablesPass
-    in-pool = formed-pool (g .F * g .S) (g .N) (st .words) (lengths g st (h .lengths) .slots) (and-left _ _ passed)
+    pub room-known : RoomKnown held reserved (st .words) after
+    room-known = t .room (not-false pass passes)
 
-    pub true-table : TableTrue (st .words) after
-    true-table = record {
-      table = record {
-        each = λ b l.
-            rw after-is
-            (getD-tab (λ b. holders b (st .words)) (g .N) 0 b (omega (arith, after-long)) ∙ ap (λ (x : ℕ). holders x (st .words)) (zero-add b));
-      };
-      pool = rw after-long in-pool;
-      few = omega (arith, lengths g st (h .lengths) .slots, slots-all g (good g (h .geometry)));
-      some = rw after-long (good g (h .geometry) .blocks);
-      most = rw after-long (good g (h .geometry) .blocks-most);
-    }
+    true-table : TableTrue (st .words) after
+    true-table = room-known .counted
 
-    module _ (none : unreserved ≡ true) where
-      pub none-there : noneReserved (st .words) ≡ true
-      none-there = and-right (tablesPass g st) (noneReserved (st .words)) (sym (t .unreserved-is) ∙ none)
+    -- what `owed_of` asks
+    pub owed-known : OwedKnown reserved (st .words) after
+    owed-known = record { looked-up = looked-up true-table; reserved-is = room-known .reserved-is }
 
-      pub judge-unreserved : TableJudged g st counts true after
-      judge-unreserved = record {
-        judged = fits-unreserved true-table none-there ∙ ap (λ (n : ℕ). fitsPool n (st .words)) after-long ∙ sym sound-is;
-        table = t .table;
-      }
-
-    -- what `owed_unless` asks
-    pub owed-known : OwedKnown unreserved (st .words) after
-    owed-known = record { looked-up = looked-up true-table; none = none-there }
-
-    pub judge-room : {fits : Bool} → fits ≡ fitsPool (length after) (st .words) → TableJudged g st counts fits after
-    judge-room e = record { judged = e ∙ ap (λ (n : ℕ). fitsPool n (st .words)) after-long ∙ sym sound-is; table = t .table }
+    pub judge-room : {fits : Bool} → fits ≡ fitsPool (length after) (st .words) → TableJudged g st fits after
+    judge-room e = record { judged = e ∙ ap (λ (n : ℕ). fitsPool n (st .words)) long ∙ sym sound-is; table = λ q. true-table }
 
     -- used and owed blocks, counted
     module _ (u o : ℕ) (usedIs : u ≡ count (ltb 0) after) (owedIs : o ≡ count (owesBy after) (st .words)) where
@@ -184,21 +239,21 @@ module _ (g : Geometry) (st : Store) {counts after : List ℕ} {pass unreserved 
       owed-same : o ≡ owed (st .words)
       owed-same = owedIs ∙ tallied-owed (st .words) after (true-table .table) (true-table .pool)
 
-      pub survey-room : g .N < u + o → TableSurveyed g st counts 3 0 0 after
-      survey-room l = record {
-        promise = survey-unsound g st h (sound-is ∙ lt-leb (used (st .words) + owed (st .words)) (g .N) (omega (arith, used-same, owed-same)));
-        table = t .table;
-      }
+      pub survey-room : g .N < u + o → SurveyPromise g st 3 0 0
+      survey-room l = survey-unsound g st h (sound-is ∙ lt-leb (used (st .words) + owed (st .words)) (g .N) (omega (arith, used-same, owed-same)))
 
-      pub surveyed : u + o ≤ g .N → TableSurveyed g st counts 0 u o after
+      pub surveyed : u + o ≤ g .N → SurveyPromise g st 0 u o
       surveyed l =
           rw (used-same, owed-same)
-          (record {
-            promise = survey-sound g st h (sound-is ∙ le-leb (used (st .words) + owed (st .words)) (g .N) (omega (arith, used-same, owed-same)));
-            table = t .table;
-          })
+          (survey-sound g st h (sound-is ∙ le-leb (used (st .words) + owed (st .words)) (g .N) (omega (arith, used-same, owed-same))))
 
 -- ---- the table's length
+
+-- the first n of a longer row of zeros
+take-replicate : (n m : ℕ) → n ≤ m → _≡_ {A = List ℕ} (take n (replicate m 0)) (replicate n 0)
+take-replicate zero m h = refl
+take-replicate (suc n) zero h = absurd (omega arith)
+take-replicate (suc n) (suc m) h = ap (λ (l : List ℕ). 0 ∷ l) (take-replicate n m (le-of-suc-le-suc h))
 
 -- the part of a longer table
 pub table-part : (g : Geometry) (st : Store) (counts : List ℕ) → TableFits g st counts → TableReady g st (take (g .N) counts)
@@ -214,9 +269,3 @@ table-zeros g st n h long = record {
 
 pub most-blocks : {g : Geometry} {st : Store} → Shaped g st → g .N ≤ 65536
 most-blocks {g} h = good g (h .geometry) .blocks-most
-
--- the table of a sound store is true
-pub judged-table : (g : Geometry) (st : Store) {counts after : List ℕ} → Shaped g st → TableJudged g st counts true after → TableTrue (st .words) after
-judged-table g st {counts} {after} h t =
-    let pass = and-left (tablesPass g st) (fitsPool (g .N) (st .words)) (sym (sound-parts g st) ∙ sym (t .judged)) in
-    true-table g st {unreserved = tablesPass g st && noneReserved (st .words)} h (record { pass-is = sym pass; unreserved-is = refl; table = t .table }) refl

@@ -8,17 +8,18 @@ use native.Mathlib.Nat.{add-zero}
 use native.Mathlib.Decide.{decLt}
 use native.Mathlib.Numerals.{add-one, sub-one}
 use native.Mathlib.Omega.{arith}
-use borrow.Author.Tests.{eq-eqb, ne-eqb, eqb-true, eqb-false, lt-ltb, le-ltb, ltb-true, le-leb, lt-leb}
+use borrow.Author.Tests.{eq-eqb, ne-eqb, eqb-true, eqb-false, lt-ltb, le-ltb, ltb-true, leb-true, le-leb, lt-leb}
 use lib.ListN.{length, length-set, length-take, getD, set, take, drop, List·getD-eq-default}
 use lib.Seq.{getD-set-same, getD-set-other, set-getD, getD-take, getD-drop, drop-drop}
 use lib.Dec.{leb, ltb, eqb, eqb·suc-zero}
 use Rattle.rules.specs.Lists.{bit, count, allTo}
 use Rattle.rules.specs.Store.{isHole, holds, holders}
-use Rattle.tables.specs.Tally.{noted, Known, GroupFits, NotesFitFrom, NotedAll, NotedFrom}
+use Rattle.tables.specs.Tally.{noted, Scanned, Scannable, Known, HoldAll, NotesFit, NotesFitAs, NotesFitFrom, NotedAll, NotedFrom}
 use Rattle.tables.specs.declared.tally.Slots.{Slots}
 use Rattle.tables.specs.Groups.{groupAt}
 use Rattle.rules.proofs.CountLaws.{count-drop, count-parts, count-all-at}
 use Rattle.rules.proofs.BoundLaws.{holders-held}
+use Rattle.rules.proofs.SoundLaws.{allTo-at}
 use Rattle.rules.proofs.PlanLaws.{InPool}
 use Rattle.tables.proofs.GroupLaws.{allTo-ext, group-room}
 
@@ -94,12 +95,27 @@ formed-most w n = go (decLt (2 * n + 1) w)
 pub words-most : (ws : List ℕ) (n : ℕ) → allTo (length ws) (λ i. leb (getD ws i 0) (2 * n + 1)) ≡ allTo (length ws) (λ i. leb (getD ws i 0 / 2) n)
 words-most ws n = allTo-ext (length ws) _ _ (λ i h. formed-most (getD ws i 0) n)
 
+-- words that pass their test name blocks of the pool
+pub formed-pool : (n m : ℕ) (ws : List ℕ) → length ws ≡ n → allTo n (λ i. leb (getD ws i 0 / 2) m) ≡ true → InPool m ws
+formed-pool n m ws l e p = go (decLt p n)
+  where
+    go : Dec (p < n) → getD ws p 0 / 2 ≤ m
+    go (yes h) = leb-true (getD ws p 0 / 2) m (allTo-at n (λ i. leb (getD ws i 0 / 2) m) e p h)
+    go (no d) = rw (List·getD-eq-default ws 0 {n = p} (omega (arith, d, l))) (omega arith)
+
+-- what `note_counted` asks of words that passed
+pub scan-fits : {ws cs : List ℕ} {held reserved : ℕ} {formed : Bool} → Scannable ws cs → Scanned ws (length cs) formed held reserved → formed ≡ true → NotesFit ws cs
+scan-fits {ws} {cs} ready scan ok = record {
+  pool = formed-pool (length ws) (length cs) ws refl (sym (scan .formed-is) ∙ ok);
+  few = ready .few;
+  short = ready .short;
+}
+
 -- ---- some words noted
 
--- holders of a part and behind it
-pub holders-from : (b i n : ℕ) (ws : List ℕ) → holders b (take n (drop i ws)) + holders b (drop (i + n) ws) ≡ holders b (drop i ws)
-holders-from b i n ws =
-    sym (count-parts (holds b) n (drop i ws) ∙ ap (λ (l : List ℕ). holders b (take n (drop i ws)) + holders b l) (drop-drop n i ws))
+-- a count over a part and behind it
+pub count-from : (p : ℕ → Bool) (i n : ℕ) (l : List ℕ) → count p (take n (drop i l)) + count p (drop (i + n) l) ≡ count p (drop i l)
+count-from p i n l = sym (count-parts p n (drop i l) ∙ ap (λ (x : List ℕ). count p (take n (drop i l)) + count p x) (drop-drop n i l))
 
 -- the blocks of a part are in the pool
 pub pool-part : (n m i : ℕ) (ws : List ℕ) → InPool n ws → InPool n (take m (drop i ws))
@@ -138,22 +154,30 @@ module _ (ws cs : List ℕ) (i : ℕ) where
   sixteen : i + 16 - i ≡ 16
   sixteen = omega arith
 
-  -- what `note_group` asks
-  pub group-fits : NotesFitFrom ws cs i → 16 ≤ length cs → GroupFits (take (i + 16 - i) (drop i ws)) cs
+  -- what `note_each` asks
+  group-known : (slots : Slots) → i + 16 ≤ length ws → 16 ≤ length cs → HoldAll slots ws
+      → Known slots ((j : ℕ) → j < length (take 16 (drop i ws)) → 0 < getD (take 16 (drop i ws)) j 0 / 2) (length (take 16 (drop i ws)) ≤ length cs)
+  group-known Slots.Held room l all = λ j h.
+      let k : j < 16 = omega (arith, length-take 16 (drop i ws)) in
+      rw (getD-take 16 (drop i ws) j 0 k, getD-drop i ws j 0) (all (i + j) (omega arith))
+  group-known Slots.Mixed room l t = omega (arith, length-take 16 (drop i ws))
+
+  pub group-fits : {slots : Slots} → groupAt i (length ws) ≡ true → NotesFitFrom slots ws cs i → 16 ≤ length cs
+      → NotesFitAs slots (take (i + 16 - i) (drop i ws)) cs
   unfolding sixteen
-  group-fits f l =
+  group-fits {slots} group f l =
       rw sixteen
       (record {
         fits = record {
           pool = pool-part (length cs) 16 i ws (f .pool);
-          few = λ b h. omega (arith, f .few b h, holders-from b i 16 ws);
+          few = λ b h. omega (arith, f .few b h, count-from (holds b) i 16 ws);
           short = omega (arith, length-take 16 (drop i ws));
         };
-        room = omega (arith, length-take 16 (drop i ws));
+        known = group-known slots (group-room i (length ws) group) l (f .known);
       })
 
   pub noted-group : groupAt i (length ws) ≡ true → {after : List ℕ} → NotedAll (take (i + 16 - i) (drop i ws)) cs after → NotedFrom ws i 16 cs after
   unfolding sixteen
   noted-group group t =
       let a = rw sixteen at t in
-      record { some = omega arith; inside = group-room i (length ws) group; long = t .long; rest = λ b h. omega (arith, a .each b h, holders-from b i 16 ws) }
+      record { some = omega arith; inside = group-room i (length ws) group; long = t .long; rest = λ b h. omega (arith, a .each b h, count-from (holds b) i 16 ws) }

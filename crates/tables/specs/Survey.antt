@@ -1,15 +1,15 @@
 -- The survey's table of holders: what is asked of it, and what it is afterwards.
-use Prim.Native.Nat.{ℕ, _*_, _/_, _≤_}
+use Prim.Native.Nat.{ℕ, _+_, _*_, _/_, _≤_, _<_}
 use mathlib.Core.Path.{_≡_}
-use mathlib.Core.Bool.{Bool, cond, _&&_}
+use mathlib.Core.Bool.{Bool, true, _&&_}
 use mathlib.Core.List.{List}
 use lib.ListN.{length, getD, replicate}
-use lib.Dec.{leb}
-use Rattle.rules.specs.Lists.{allTo, tabulate}
-use Rattle.rules.specs.Store.{Geometry, Store, holders, soundFile, sound}
-use Rattle.rules.specs.Calls.{SurveyPromise}
-use Rattle.tables.specs.Tables.{Shaped}
-use Rattle.tables.specs.Tally.{noneReserved}
+use lib.Dec.{leb, ltb}
+use Rattle.rules.specs.Lists.{allTo, count, ceilDiv}
+use Rattle.rules.specs.Store.{Geometry, Store, sizeOf, wordOf, isReserved, holders, soundFile, sound}
+use Rattle.rules.specs.Attributes.{slotsOf}
+use Rattle.tables.specs.Tables.{Shaped, TableTrue}
+use Rattle.tables.specs.Tally.{NotedAll, RoomKnown}
 
 -- a zero for each block
 pub record TableReady (g : Geometry) (st : Store) (counts : List ℕ) : Type 0 where
@@ -26,22 +26,34 @@ pub record TableFits (g : Geometry) (st : Store) (counts : List ℕ) : Type 0 wh
 unfoldable pub tablesPass : Geometry → Store → Bool
 tablesPass g st = allTo (g .F * g .S) (λ i. leb (getD (st .words) i 0 / 2) (g .N)) && allTo (g .F) (soundFile g st)
 
--- the table that they leave: where the tests pass the holders of each block, else as it was
-unfoldable pub tableAfter : Geometry → Store → List ℕ → List ℕ
-tableAfter g st counts = cond (tablesPass g st) (tabulate (λ b. holders b (st .words)) 0 (g .N)) counts
+-- the slots of file f below its end name blocks of the pool, and it is sound
+abbrev pub filePasses : Geometry → Store → ℕ → Bool
+filePasses g st f = allTo (ceilDiv (sizeOf st f) (g .B)) (λ k. leb (wordOf g (st .words) f k / 2) (g .N)) && soundFile g st f
 
--- their answer, whether they have met no reserved slot, and the table afterwards
-pub record TableTested (g : Geometry) (st : Store) (counts : List ℕ) (pass unreserved : Bool) (after : List ℕ) : Type 0 where
+-- slots noted, so many of them hold a block, and so many are reserved
+pub record SlotsCounted (ws before : List ℕ) (held reserved : ℕ) (after : List ℕ) : Type 0 where
+  pub noted : NotedAll ws before after
+  pub held-is : held ≡ count (ltb 1) ws
+  pub reserved-is : reserved ≡ count isReserved ws
+
+-- a table of one number for each block, to which the slots of file f can be added
+pub record FileReady (g : Geometry) (st : Store) (counts : List ℕ) (f : ℕ) : Type 0 where
+  pub shaped : Shaped g st
+  pub file : f < g .F
+  pub long : length counts ≡ g .N
+  pub few : (b : ℕ) → b < length counts → getD counts b 0 + holders b (slotsOf g (st .words) f) ≤ 65536
+
+-- the test of a file, and its slots counted where it passes
+pub record FileTested (g : Geometry) (st : Store) (before : List ℕ) (f : ℕ) (pass : Bool) (held reserved : ℕ) (after : List ℕ) : Type 0 where
+  pub pass-is : pass ≡ filePasses g st f
+  pub counted : pass ≡ true → SlotsCounted (slotsOf g (st .words) f) before held reserved after
+
+-- that of all files, which leaves the table of holders where they pass
+pub record TableTested (g : Geometry) (st : Store) (pass : Bool) (held reserved : ℕ) (after : List ℕ) : Type 0 where
   pub pass-is : pass ≡ tablesPass g st
-  pub unreserved-is : unreserved ≡ (tablesPass g st && noneReserved (st .words))
-  pub table : after ≡ tableAfter g st counts
+  pub room : pass ≡ true → RoomKnown held reserved (st .words) after
 
--- whether the store is sound
-pub record TableJudged (g : Geometry) (st : Store) (counts : List ℕ) (sound-is : Bool) (after : List ℕ) : Type 0 where
+-- whether the store is sound, with a true table of holders where it is
+pub record TableJudged (g : Geometry) (st : Store) (sound-is : Bool) (after : List ℕ) : Type 0 where
   pub judged : sound-is ≡ sound g st
-  pub table : after ≡ tableAfter g st counts
-
--- the survey's answer
-pub record TableSurveyed (g : Geometry) (st : Store) (counts : List ℕ) (number usedIs owedIs : ℕ) (after : List ℕ) : Type 0 where
-  pub promise : SurveyPromise g st number usedIs owedIs
-  pub table : after ≡ tableAfter g st counts
+  pub table : sound-is ≡ true → TableTrue (st .words) after

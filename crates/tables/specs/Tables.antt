@@ -1,10 +1,11 @@
 -- What is known of the tables where an inner function is called: contracts cite these records.
-use Prim.Native.Nat.{ℕ, _≤_, _<_}
+use Prim.Native.Nat.{ℕ, _/_, _≤_, _<_}
 use mathlib.Core.Path.{_≡_}
 use mathlib.Core.Bool.{true}
 use mathlib.Core.List.{List}
 use lib.ListN.{length, getD, set}
-use Rattle.rules.specs.Store.{Geometry, goodGeometry, Store, goodLengths, holders}
+use Rattle.rules.specs.Lists.{ceilDiv}
+use Rattle.rules.specs.Store.{Geometry, goodGeometry, Store, goodLengths, sizeOf, wordOf, holders}
 use Rattle.rules.proofs.PlanLaws.{InPool}
 
 -- a good geometry, and tables of its lengths
@@ -12,15 +13,11 @@ pub record Shaped (g : Geometry) (st : Store) : Type 0 where
   pub geometry : goodGeometry g ≡ true
   pub lengths : goodLengths g st ≡ true
 
--- tables of a good geometry whose words name blocks of the pool
-pub record Pooled (g : Geometry) (st : Store) : Type 0 where
-  pub shaped : Shaped g st
-  pub pool : InPool (g .N) (st .words)
-
--- and file f is one of theirs
+-- and file f is one of theirs, whose slots below its end name blocks of the pool
 pub record FileKnown (g : Geometry) (st : Store) (f : ℕ) : Type 0 where
-  pub tables : Pooled g st
+  pub shaped : Shaped g st
   pub file : f < g .F
+  pub pool : (k : ℕ) → k < ceilDiv (sizeOf st f) (g .B) → wordOf g (st .words) f k / 2 ≤ g .N
 
 -- the table of holders: for each block the number of slots that hold it
 pub record Tallied (ws counts : List ℕ) : Type 0 where

@@ -1,24 +1,21 @@
 -- The table of holders, filled by one pass over the slot words, and what is read off it.
-use Prim.Native.Nat.{ℕ, zero, suc, pred, _+_, _-_, _*_, _/_, _≤_, _<_}
+use Prim.Native.Nat.{ℕ, zero, suc, pred, _+_, _-_, _/_, _≤_, _<_}
 use mathlib.Core.Path.{_≡_}
 use mathlib.Core.Bool.{Bool, true, _&&_, _||_, not}
 use mathlib.Core.List.{List, [], _∷_}
-use lib.ListN.{length, getD, set, drop, replicate}
-use lib.Dec.{leb, ltb, eqb}
-use Rattle.rules.specs.Lists.{count, allTo, ceilDiv}
-use Rattle.rules.specs.Store.{Geometry, goodGeometry, wordOf, isHole, isReserved, holders}
-use Rattle.rules.specs.Attributes.{slotsOf}
+use lib.ListN.{length, getD, set, drop}
+use lib.Dec.{leb, ltb}
+use Rattle.rules.specs.Lists.{count, allTo}
+use Rattle.rules.specs.Store.{isHole, isReserved, holders}
 use Rattle.rules.proofs.PlanLaws.{InPool}
+use Rattle.tables.specs.Tables.{TableTrue}
 use Rattle.tables.specs.declared.tally.Slots.{Slots}
 
--- no slot is reserved
-abbrev pub noneReserved : List ℕ → Bool
-noneReserved ws = allTo (length ws) (λ i. not (isReserved (getD ws i 0)))
-
--- what one pass tells of words, for a pool of n blocks
-pub record Scanned (ws : List ℕ) (n : ℕ) (formed unreserved : Bool) : Type 0 where
+-- what one pass tells of words, for a pool of n blocks; a word above 1 holds a block
+pub record Scanned (ws : List ℕ) (n : ℕ) (formed : Bool) (held reserved : ℕ) : Type 0 where
   pub formed-is : formed ≡ allTo (length ws) (λ i. leb (getD ws i 0 / 2) n)
-  pub unreserved-is : unreserved ≡ noneReserved ws
+  pub held-is : held ≡ count (ltb 1) ws
+  pub reserved-is : reserved ≡ count isReserved ws
 
 -- the counts with one more for block k - 1; a hole's k is 0
 unfoldable pub noted : ℕ → List ℕ → List ℕ
@@ -59,13 +56,17 @@ pub record NotesFitAs (slots : Slots) (ws counts : List ℕ) : Type 0 where
   pub fits : NotesFit ws counts
   pub known : Known slots ((i : ℕ) → i < length ws → 0 < getD ws i 0 / 2) (length ws ≤ length counts)
 
--- a group of no more words than there are blocks
-pub record GroupFits (ws counts : List ℕ) : Type 0 where
+-- each of the slots holds a block, if that is said of them
+abbrev pub HoldAll : Slots → List ℕ → Type 0
+HoldAll slots ws = Known slots ((i : ℕ) → i < length ws → 0 < getD ws i 0 / 2) (Unit {0})
+
+pub record GroupsFit (slots : Slots) (ws counts : List ℕ) : Type 0 where
   pub fits : NotesFit ws counts
-  pub room : length ws ≤ length counts
+  pub known : HoldAll slots ws
 
 -- the words from place i on are still to be noted, at least one
-pub record NotesFitFrom (ws counts : List ℕ) (i : ℕ) : Type 0 where
+pub record NotesFitFrom (slots : Slots) (ws counts : List ℕ) (i : ℕ) : Type 0 where
+  pub known : HoldAll slots ws
   pub pool : InPool (length counts) ws
   pub few : (b : ℕ) → b < length counts → getD counts b 0 + holders b (drop i ws) ≤ 65536
   pub some : i < length ws
@@ -82,28 +83,15 @@ pub record NotedFrom (ws : List ℕ) (i n : ℕ) (before after : List ℕ) : Typ
   pub long : length after ≡ length before
   pub rest : (b : ℕ) → b < length before → getD after b 0 + holders b (drop (i + n) ws) ≡ getD before b 0 + holders b (drop i ws)
 
--- ---- file by file
+-- words that may name any block: those of the table do not grow too large
+pub record Scannable (ws counts : List ℕ) : Type 0 where
+  pub blocks : length counts ≤ 65536
+  pub short : length ws ≤ 65536
+  pub few : (b : ℕ) → b < length counts → getD counts b 0 + holders b ws ≤ 65536
 
--- every size fits, and the slots past it are 0
-pub record PastZero (g : Geometry) (sizes ws : List ℕ) : Type 0 where
-  pub geometry : goodGeometry g ≡ true
-  pub files : length sizes ≡ g .F
-  pub slots : length ws ≡ g .F * g .S
-  pub fits : (f : ℕ) → f < g .F → getD sizes f 0 ≤ g .S * g .B
-  pub past : (f : ℕ) → f < g .F → allTo (g .S) (λ k. ltb k (ceilDiv (getD sizes f 0) (g .B)) || eqb (wordOf g ws f k) 0) ≡ true
-
--- what noting the slots of file f starts from
-pub record FileTalliable (g : Geometry) (sizes ws counts : List ℕ) (f : ℕ) : Type 0 where
-  pub past : PastZero g sizes ws
-  pub file : f < g .F
-  pub pool : InPool (length counts) ws
-  pub fits : NotesFit (slotsOf g ws f) counts
-
--- what noting the slots of all files starts from: counts that are zero, and blocks in the table
-pub record Talliable (g : Geometry) (sizes ws counts : List ℕ) : Type 0 where
-  pub past : PastZero g sizes ws
-  pub pool : InPool (length counts) ws
-  pub zeros : counts ≡ replicate (length counts) 0
+pub record ScannedNoted (ws before : List ℕ) (formed : Bool) (held reserved : ℕ) (after : List ℕ) : Type 0 where
+  pub scanned : Scanned ws (length before) formed held reserved
+  pub noted : formed ≡ true → NotedAll ws before after
 
 -- ---- read off the table
 
@@ -121,10 +109,16 @@ takesBy counts w = isHole w || ltb 1 (getD counts (pred (w / 2)) 0)
 abbrev pub owesBy : List ℕ → ℕ → Bool
 owesBy counts w = takesBy counts w && isReserved w
 
--- slots of which it may be known that none is reserved
-pub record OwedKnown (unreserved : Bool) (ws counts : List ℕ) : Type 0 where
+-- slots of which so many are reserved
+pub record OwedKnown (reserved : ℕ) (ws counts : List ℕ) : Type 0 where
   pub looked-up : InTable ws counts
-  pub none : unreserved ≡ true → noneReserved ws ≡ true
+  pub reserved-is : reserved ≡ count isReserved ws
+
+-- and so many hold a block, in a true table
+pub record RoomKnown (held reserved : ℕ) (ws counts : List ℕ) : Type 0 where
+  pub counted : TableTrue ws counts
+  pub held-is : held ≡ count (ltb 1) ws
+  pub reserved-is : reserved ≡ count isReserved ws
 
 -- of the n slots from i on, at least one, `owed` owe a block
 pub record OwedFrom (ws counts : List ℕ) (i n owed : ℕ) : Type 0 where

@@ -7,7 +7,7 @@ ghost use lib.Dec.{eqb, ltb};
 ghost use Rattle.rules.specs.Lists.{allTo, ceilDiv};
 ghost use Rattle.rules.specs.Store.{wordOf, slotByte, soundFile};
 ghost use Rattle.tables.specs.Lent.{geometryOf, before, tables};
-ghost use Rattle.tables.specs.Tables.{Pooled, FileKnown};
+ghost use Rattle.tables.specs.Tables.{FileKnown};
 use crate::geometry::Geometry;
 use crate::groups::Sort;
 use crate::groups::all_of_sort;
@@ -71,7 +71,7 @@ pub fn slots_of(size: usize, b: usize) -> usize
 }
 
 // Whether file f is sound. Of the block memory only the bytes past the size, in its last slot's block, are read.
-fn file_sound(g: Geometry, sizes: &[u64], words: &[u32], mem: &[u8], f: usize) -> bool
+pub fn file_sound(g: Geometry, sizes: &[u64], words: &[u32], mem: &[u8], f: usize) -> bool
     requires { ⌜ FileKnown (geometryOf g) (tables sizes words mem) f ⌝ }
     ensures { λ r. ⌜ r ≡ soundFile (geometryOf g) (before sizes words mem) f ⌝ }
 {
@@ -90,19 +90,4 @@ fn file_sound(g: Geometry, sizes: &[u64], words: &[u32], mem: &[u8], f: usize) -
     }
     let last = words[f * g.slots + size / g.block_size];
     tail_zero(g, mem, last, past)
-}
-
-// Whether every file is sound.
-pub fn files_sound(g: Geometry, sizes: &[u64], words: &[u32], mem: &[u8]) -> bool
-    requires { ⌜ Pooled (geometryOf g) (tables sizes words mem) ⌝ }
-    ensures { λ r. ⌜ r ≡ allTo (g .files) (soundFile (geometryOf g) (before sizes words mem)) ⌝ }
-{
-    let mut f = 0;
-    while f < g.files {
-        if !file_sound(g, sizes, words, mem, f) {
-            return false;
-        }
-        f += 1;
-    }
-    true
 }

@@ -6,7 +6,7 @@ ghost use lib.Dec.{ltb};
 ghost use Rattle.rules.specs.Lists.{bit, count};
 ghost use Rattle.rules.specs.Store.{fitsPool};
 ghost use Rattle.tables.specs.Tables.{TableTrue};
-ghost use Rattle.tables.specs.Tally.{takesBy, owesBy, InTable, OwedFrom, OwedKnown, firstZero, HeldFrom};
+ghost use Rattle.tables.specs.Tally.{takesBy, owesBy, InTable, OwedFrom, OwedKnown, RoomKnown, firstZero, HeldFrom};
 use crate::groups::Group;
 use crate::groups::Sort;
 use crate::groups::all_of_sort;
@@ -102,30 +102,33 @@ pub fn owed_slots(words: &[u32], counts: &[u32]) -> usize
     n
 }
 
-// How many slots owe a block, if it is known whether none is reserved.
-pub fn owed_unless(unreserved: bool, words: &[u32], counts: &[u32]) -> usize
-    requires { ⌜ OwedKnown unreserved (now words) (now counts) ⌝ }
+// The same where so many are reserved: without one nothing is owed.
+pub fn owed_of(reserved: usize, words: &[u32], counts: &[u32]) -> usize
+    requires { ⌜ OwedKnown reserved (now words) (now counts) ⌝ }
     ensures { λ r. ⌜ r ≡ count (owesBy (now (counts .entry))) (now (words .entry)) ⌝ }
 {
-    if unreserved {
+    if reserved == 0 {
         return 0;
     }
     owed_slots(words, counts)
 }
 
-// Whether used and owed blocks fit the pool. They are counted only where they may not: they are never more than the slots that hold a
-// block and those that are reserved.
-pub fn fits_counted(words: &[u32], counts: &[u32]) -> bool
-    requires { ⌜ TableTrue (now words) (now counts) ⌝ }
+// Whether used and owed blocks fit the pool, where so many slots hold a block and so many are reserved. They are counted only where
+// they may not fit: nothing is owed without a reserved slot, and they are never more than those slots together.
+pub fn fits_of(held: usize, reserved: usize, words: &[u32], counts: &[u32]) -> bool
+    requires { ⌜ RoomKnown held reserved (now words) (now counts) ⌝ }
     ensures { λ r. ⌜ r ≡ fitsPool (length (now (counts .entry))) (now (words .entry)) ⌝ }
 {
-    if count_of_sort(Sort::Above(1), words) + count_of_sort(Sort::Reserved, words) <= counts.len() {
+    if reserved == 0 {
+        return true;
+    }
+    if held + reserved <= counts.len() {
         return true;
     }
     used_blocks(counts) + owed_slots(words, counts) <= counts.len()
 }
 
-// The same; nothing is counted where no slot is reserved, as nothing is owed.
+// The same, counting those slots.
 pub fn fits_pool(words: &[u32], counts: &[u32]) -> bool
     requires { ⌜ TableTrue (now words) (now counts) ⌝ }
     ensures { λ r. ⌜ r ≡ fitsPool (length (now (counts .entry))) (now (words .entry)) ⌝ }
@@ -133,7 +136,12 @@ pub fn fits_pool(words: &[u32], counts: &[u32]) -> bool
     if all_of_sort(Sort::Unreserved, words) {
         return true;
     }
-    fits_counted(words, counts)
+    fits_of(
+        count_of_sort(Sort::Above(1), words),
+        count_of_sort(Sort::Reserved, words),
+        words,
+        counts,
+    )
 }
 
 // How many blocks from b on are seen to be held: the group that starts there, block b, or none.

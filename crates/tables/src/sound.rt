@@ -5,15 +5,15 @@ ghost use Prim.Native.Nat.{_≤_};
 ghost use Rattle.tables.specs.Lent.{geometryOf, before, tables};
 ghost use Rattle.tables.specs.Tables.{Shaped};
 ghost use Rattle.rules.specs.Calls.{SurveyPromise};
-ghost use Rattle.tables.specs.Survey.{TableReady, TableFits, TableTested, TableJudged, TableSurveyed};
-use crate::files::files_sound;
+ghost use Rattle.tables.specs.Survey.{TableReady, TableFits, FileReady, FileTested, TableTested, TableJudged};
+use crate::files::file_sound;
+use crate::files::slots_of;
 use crate::geometry::Geometry;
 use crate::geometry::good_lengths;
-use crate::pool::fits_counted;
-use crate::pool::owed_unless;
+use crate::pool::fits_of;
+use crate::pool::owed_of;
 use crate::pool::used_blocks;
-use crate::tally::scan_words;
-use crate::tally::tally_files;
+use crate::tally::scan_and_note;
 
 // A refusal with zero counts, or 0 with the counts.
 pub struct Surveyed {
@@ -41,41 +41,80 @@ impl Surveyed {
     }
 }
 
-// Whether tables pass the tests of a sound store but for the room, and without a reserved slot.
+// Whether slots and files pass the tests of a sound store but for the room, and how many slots hold a block and are reserved.
 struct Tested {
     pass: bool,
-    unreserved: bool,
+    held: usize,
+    reserved: usize,
 }
 
 impl Tested {
     fn failed() -> Tested
-        ensures { λ r. ⌜ r ≡ record { pass = false; unreserved = false } ⌝ }
+        ensures { λ r. ⌜ r ≡ record { pass = false; held = 0; reserved = 0 } ⌝ }
     {
         Tested {
             pass: false,
-            unreserved: false,
+            held: 0,
+            reserved: 0,
         }
     }
 }
 
-// Tests words and files of tables that have their lengths. `counts` has a zero for each block; where they pass it is the table of
-// holders afterwards.
-fn test_tables(g: Geometry, sizes: &[u64], words: &[u32], mem: &[u8], counts: &mut [u32]) -> Tested
-    requires { ⌜ TableReady (geometryOf g) (tables sizes words mem) (now counts) ⌝ }
-    ensures { λ r. ⌜ TableTested (geometryOf g) (before sizes words mem) (now (counts .entry))
-        (r .pass) (r .unreserved) (now (counts .exit)) ⌝ }
+// Tests file f, and notes its slots; those behind its end hold nothing.
+fn test_file(
+    g: Geometry,
+    sizes: &[u64],
+    words: &[u32],
+    mem: &[u8],
+    counts: &mut [u32],
+    f: usize,
+) -> Tested
+    requires { ⌜ FileReady (geometryOf g) (tables sizes words mem) (now counts) f ⌝ }
+    ensures { λ r. ⌜ FileTested (geometryOf g) (before sizes words mem) (now (counts .entry)) f
+        (r .pass) (r .held) (r .reserved) (now (counts .exit)) ⌝ }
 {
-    let scan = scan_words(words, g.blocks);
+    if ((g.slots * g.block_size) as u64) < sizes[f] {
+        return Tested::failed();
+    }
+    let at = f * g.slots;
+    let end = at + slots_of(sizes[f] as usize, g.block_size);
+    let scan = scan_and_note(&words[at..end], counts);
     if !scan.formed {
         return Tested::failed();
     }
-    if !files_sound(g, sizes, words, mem) {
+    if !file_sound(g, sizes, words, mem, f) {
         return Tested::failed();
     }
-    tally_files(g, sizes, words, counts);
     Tested {
         pass: true,
-        unreserved: scan.unreserved,
+        held: scan.held,
+        reserved: scan.reserved,
+    }
+}
+
+// Tests tables that have their lengths, file by file. `counts` has a zero for each block; where they pass it is the table of
+// holders afterwards.
+fn test_tables(g: Geometry, sizes: &[u64], words: &[u32], mem: &[u8], counts: &mut [u32]) -> Tested
+    requires { ⌜ TableReady (geometryOf g) (tables sizes words mem) (now counts) ⌝ }
+    ensures { λ r. ⌜ TableTested (geometryOf g) (before sizes words mem)
+        (r .pass) (r .held) (r .reserved) (now (counts .exit)) ⌝ }
+{
+    let mut held: usize = 0;
+    let mut reserved: usize = 0;
+    let mut f = 0;
+    while f < g.files {
+        let t = test_file(g, sizes, words, mem, counts, f);
+        if !t.pass {
+            return Tested::failed();
+        }
+        held += t.held;
+        reserved += t.reserved;
+        f += 1;
+    }
+    Tested {
+        pass: true,
+        held,
+        reserved,
     }
 }
 
@@ -88,16 +127,13 @@ pub fn judge_tables(
     counts: &mut [u32],
 ) -> bool
     requires { ⌜ TableReady (geometryOf g) (tables sizes words mem) (now counts) ⌝ }
-    ensures { λ r. ⌜ TableJudged (geometryOf g) (before sizes words mem) (now (counts .entry)) r (now (counts .exit)) ⌝ }
+    ensures { λ r. ⌜ TableJudged (geometryOf g) (before sizes words mem) r (now (counts .exit)) ⌝ }
 {
     let t = test_tables(g, sizes, words, mem, counts);
     if !t.pass {
         return false;
     }
-    if t.unreserved {
-        return true;
-    }
-    fits_counted(words, counts)
+    fits_of(t.held, t.reserved, words, counts)
 }
 
 fn survey_tables(
@@ -108,15 +144,15 @@ fn survey_tables(
     counts: &mut [u32],
 ) -> Surveyed
     requires { ⌜ TableReady (geometryOf g) (tables sizes words mem) (now counts) ⌝ }
-    ensures { λ r. ⌜ TableSurveyed (geometryOf g) (before sizes words mem) (now (counts .entry))
-        (r .number) (r .used) (r .owed) (now (counts .exit)) ⌝ }
+    ensures { λ r. ⌜ SurveyPromise (geometryOf g) (before sizes words mem)
+        (r .number) (r .used) (r .owed) ⌝ }
 {
     let t = test_tables(g, sizes, words, mem, counts);
     if !t.pass {
         return Surveyed::refused(Surveyed::UNSOUND);
     }
     let used = used_blocks(counts);
-    let owed = owed_unless(t.unreserved, words, counts);
+    let owed = owed_of(t.reserved, words, counts);
     if g.blocks < used + owed {
         return Surveyed::refused(Surveyed::UNSOUND);
     }

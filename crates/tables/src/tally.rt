@@ -3,13 +3,10 @@ ghost use mathlib.Core.Path.{_≡_};
 ghost use mathlib.Core.Bool.{cond};
 ghost use Prim.Native.Nat.{pred, _/_, _<_, _≤_};
 ghost use lib.ListN.{length};
+ghost use lib.Dec.{ltb};
+ghost use Rattle.rules.specs.Lists.{count};
 ghost use Rattle.rules.specs.Store.{isHole};
-ghost use Rattle.rules.specs.Attributes.{slotsOf};
-ghost use Rattle.tables.specs.Lent.{geometryOf};
-ghost use Rattle.tables.specs.Tables.{Tallied};
-ghost use Rattle.tables.specs.Tally.{Scanned, noted, Notable, NotableAs, NotesFit, NotesFitAs, GroupFits, NotesFitFrom, NotedAll, NotedFrom, FileTalliable, Talliable};
-use crate::files::slots_of;
-use crate::geometry::Geometry;
+ghost use Rattle.tables.specs.Tally.{Scanned, Scannable, ScannedNoted, noted, Notable, NotableAs, NotesFit, NotesFitAs, NotesFitFrom, GroupsFit, NotedAll, NotedFrom};
 use crate::groups::Group;
 use crate::groups::Sort;
 use crate::groups::bit_of_sort;
@@ -17,27 +14,34 @@ use crate::groups::count_of_sort;
 use crate::groups::group_at;
 use crate::groups::of_sort_too;
 
-// What one pass tells of slot words: whether each names one of the blocks or none, and whether none is reserved.
+// What one pass tells of slot words: whether each names one of the blocks or none, how many hold a block, and how many are reserved.
 pub struct Scan {
     pub formed: bool,
-    pub unreserved: bool,
+    pub held: usize,
+    pub reserved: usize,
 }
 
 pub fn scan_words(words: &[u32], blocks: usize) -> Scan
-    requires { ⌜ blocks ≤ 65536 ⌝ }
-    ensures { λ r. ⌜ Scanned (now (words .entry)) blocks (r .formed) (r .unreserved) ⌝ }
+    requires { ⌜ (blocks ≤ 65536) × (length (now words) ≤ 65536) ⌝ }
+    ensures { λ r. ⌜ Scanned (now (words .entry)) blocks (r .formed) (r .held) (r .reserved) ⌝ }
 {
     let most = 2 * blocks as u32 + 1;
     let mut formed = true;
-    let mut unreserved = true;
+    let mut held: u32 = 0;
+    let mut reserved: u32 = 0;
     let mut i = 0;
     while i < words.len() {
         let w = words[i];
         formed = of_sort_too(Sort::AtMost(most), formed, w);
-        unreserved = of_sort_too(Sort::Unreserved, unreserved, w);
+        held += bit_of_sort(Sort::Above(1), w);
+        reserved += bit_of_sort(Sort::Reserved, w);
         i += 1;
     }
-    Scan { formed, unreserved }
+    Scan {
+        formed,
+        held: held as usize,
+        reserved: reserved as usize,
+    }
 }
 
 // One more holder of the block of word w; a hole has none.
@@ -108,63 +112,60 @@ fn note_each(slots: Slots, words: &[u32], counts: &mut [u32])
     }
 }
 
-// The same of no more words than there are blocks, with no branch on a word.
-fn note_group(words: &[u32], counts: &mut [u32])
-    requires { ⌜ GroupFits (now words) (now counts) ⌝ }
-    ensures { λ _. ⌜ NotedAll (now (words .entry)) (now (counts .entry)) (now (counts .exit)) ⌝ }
-{
-    let held = count_of_sort(Sort::Above(1), words);
-    if held == words.len() {
-        note_each(Slots::Held, words, counts);
-        return;
-    }
-    if held == 0 {
-        return;
-    }
-    note_each(Slots::Mixed, words, counts);
-}
-
 // The same from slot i on, of the group that starts there or of the slot: how many it were.
-fn note_from(words: &[u32], counts: &mut [u32], i: usize) -> usize
-    requires { ⌜ NotesFitFrom (now words) (now counts) i ⌝ }
+fn note_from(slots: Slots, words: &[u32], counts: &mut [u32], i: usize) -> usize
+    requires { ⌜ NotesFitFrom slots (now words) (now counts) i ⌝ }
     ensures { λ r. ⌜ NotedFrom (now (words .entry)) i r (now (counts .entry)) (now (counts .exit)) ⌝ }
 {
     if group_at(i, words.len()) & (Group::SIZE <= counts.len()) {
-        note_group(&words[i..i + Group::SIZE], counts);
+        note_each(slots, &words[i..i + Group::SIZE], counts);
         return Group::SIZE;
     }
     note(counts, words[i]);
     1
 }
 
-pub fn note_all(words: &[u32], counts: &mut [u32])
-    requires { ⌜ NotesFit (now words) (now counts) ⌝ }
+fn note_groups(slots: Slots, words: &[u32], counts: &mut [u32])
+    requires { ⌜ GroupsFit slots (now words) (now counts) ⌝ }
     ensures { λ _. ⌜ NotedAll (now (words .entry)) (now (counts .entry)) (now (counts .exit)) ⌝ }
 {
     let mut i = 0;
     while i < words.len() {
-        i += note_from(words, counts, i);
+        i += note_from(slots, words, counts, i);
     }
 }
 
-// The same for the slots of file f. Those past its size hold no block.
-fn tally_file(g: Geometry, sizes: &[u64], words: &[u32], counts: &mut [u32], f: usize)
-    requires { ⌜ FileTalliable (geometryOf g) (now sizes) (now words) (now counts) f ⌝ }
-    ensures { λ _. ⌜ NotedAll (slotsOf (geometryOf g) (now (words .entry)) f) (now (counts .entry)) (now (counts .exit)) ⌝ }
+// One more holder of its block for each word, of which so many hold one, with no branch on a word.
+fn note_counted(held: usize, words: &[u32], counts: &mut [u32])
+    requires { ⌜ NotesFit (now words) (now counts) × (held ≡ count (ltb 1) (now words)) ⌝ }
+    ensures { λ _. ⌜ NotedAll (now (words .entry)) (now (counts .entry)) (now (counts .exit)) ⌝ }
 {
-    let at = f * g.slots;
-    let end = at + slots_of(sizes[f] as usize, g.block_size);
-    note_all(&words[at..end], counts);
+    if held == 0 {
+        return;
+    }
+    if held == words.len() {
+        note_groups(Slots::Held, words, counts);
+        return;
+    }
+    note_groups(Slots::Mixed, words, counts);
 }
 
-// Counts the holders of each block, in a table of zeros.
-pub fn tally_files(g: Geometry, sizes: &[u64], words: &[u32], counts: &mut [u32])
-    requires { ⌜ Talliable (geometryOf g) (now sizes) (now words) (now counts) ⌝ }
-    ensures { λ _. ⌜ Tallied (now (words .entry)) (now (counts .exit)) ⌝ }
+pub fn note_all(words: &[u32], counts: &mut [u32])
+    requires { ⌜ NotesFit (now words) (now counts) ⌝ }
+    ensures { λ _. ⌜ NotedAll (now (words .entry)) (now (counts .entry)) (now (counts .exit)) ⌝ }
 {
-    let mut f = 0;
-    while f < g.files {
-        tally_file(g, sizes, words, counts, f);
-        f += 1;
+    note_counted(count_of_sort(Sort::Above(1), words), words, counts);
+}
+
+// Scans slots and, where each names one of the blocks or none, notes them.
+pub fn scan_and_note(words: &[u32], counts: &mut [u32]) -> Scan
+    requires { ⌜ Scannable (now words) (now counts) ⌝ }
+    ensures { λ r. ⌜ ScannedNoted (now (words .entry)) (now (counts .entry)) (r .formed) (r .held) (r .reserved) (now (counts .exit)) ⌝ }
+{
+    let scan = scan_words(words, counts.len());
+    if !scan.formed {
+        return scan;
     }
+    note_counted(scan.held, words, counts);
+    scan
 }

@@ -3,7 +3,7 @@ use native.Mathlib.Nat.{le-of-lt, mod-lt}
 use native.Mathlib.Omega.{arith}
 use lib.ListN.{length, getD}
 use Rattle.rules.proofs.SoundStore.{ceil-le}
-use Rattle.tables.proofs.FileTests.{file-room, cut-slot, too-large, slots-fail, whole-slots, part-slot}
+use Rattle.tables.proofs.FileTests.{file-room, cut-slot, cut-below, too-large, slots-fail, whole-slots, part-slot}
 use Rattle.tables.proofs.files.file_sound.Statement.{statement}
 use Rattle.tables.proofs.files.file_sound.Tie as tie
 
@@ -63,7 +63,9 @@ shared-slice-read-last : tie.Need-shared-slice-read-last
 shared-slice-read-last c = inside (c .before)
 
 tail-zero-requires : tie.Need-tail-zero-requires
-tail-zero-requires c κs = let r = file-room (c .before .before .before .before .before .before .before .before .before .before .before .before .before .before .pre) in (r .block _, le-of-lt (mod-lt _ (r .pos)))
+tail-zero-requires c κs =
+    let r = file-room (c .before .before .before .before .before .before .before .before .before .before .before .before .before .before .pre) in
+    (r .block _ (cut-below (r .pos) _ (c .before .before .before .if3 .left)), le-of-lt (mod-lt _ (r .pos)))
 
 returns-4 : tie.Need-returns-4
 returns-4 c =

@@ -1,13 +1,23 @@
 use mathlib.Core.Path.{sym, _∙_}
 use borrow.Author.Needs.{needs}
-use Rattle.tables.proofs.PoolLaws.{fits-unreserved}
+use Rattle.tables.proofs.PoolLaws.{none-reserved, fits-unreserved}
 use Rattle.tables.proofs.pool.fits_pool.Statement.{statement}
 use Rattle.tables.proofs.pool.fits_pool.Tie as tie
 
 returns : tie.Need-returns
 returns c =
     let k = c .before in
-    fits-unreserved (k .before .before .before .pre) (sym (k .all-of-sort .ensures) ∙ c .if1 .taken)
+    let s = k .before .before .before in
+    fits-unreserved (s .pre) (none-reserved (s .args .words .now) (sym (k .all-of-sort .ensures) ∙ c .if1 .taken))
+
+fits-of-requires : tie.Need-fits-of-requires
+fits-of-requires c κs =
+    let h = c .before in
+    let k = h .before .before in
+    record { counted = k .before .before .before .pre; held-is = h .count-of-sort .ensures; reserved-is = c .count-of-sort2 .ensures }
 
 pub fits-pool-spec : {M : Type 1} → statement M
-fits-pool-spec = tie.close (tie.spec (λ c κs. search needs) returns (λ c κs. search needs) (λ c. search needs))
+fits-pool-spec =
+    tie.close
+    (tie.spec
+    (λ c κs. search needs) returns (λ c κs. search needs) (λ c κs. search needs) fits-of-requires (λ c. search needs))

@@ -1,53 +1,81 @@
-use Rattle.tables.proofs.SurveyLaws.{most-blocks, words-fail, pooled, files-fail, talliable, tested}
+use Prim.Native.Nat.{_-_}
+use mathlib.Core.Path.{sym, _∙_}
+use native.Mathlib.Omega.{arith}
+use borrow.Author.Tests.{not-true, not-false}
+use Rattle.tables.specs.Lent.{geometryOf}
+use Rattle.tables.proofs.SurveyLaws.{Testing, ready-long, testing-none, file-ready, testing-fails, held-small, reserved-small, more-small, too-small, testing-more, testing-all}
 use borrow.Author.Needs.{needs}
 use Rattle.tables.proofs.sound.test_tables.Statement.{statement}
 use Rattle.tables.proofs.sound.test_tables.Tie as tie
 
-scan-words-requires : tie.Need-scan-words-requires
-scan-words-requires c κs = most-blocks (c .before .before .before .before .pre .shaped)
+abbrev Inv-loop : tie.InvT-loop
+Inv-loop g sizes words mem counts₀ held₀ reserved₀ f₀ counts held reserved f = Testing (geometryOf g) (record { sizes = sizes; words = words; mem = mem }) counts f held reserved
 
-returns : tie.Need-returns
-returns c =
-    let k = c .before .before .before in
-    let s = k .before .before .before .before .before in
-    rw (c .failed .ensures) (words-fail _ _ _ (s .pre) (k .scan-words .ensures) (c .before .if1 .taken))
+abbrev μ-loop : tie.MeasureT-loop
+μ-loop g sizes words mem counts₀ held₀ reserved₀ f₀ counts held reserved f = g .files - f
 
-files-sound-requires : tie.Need-files-sound-requires
-files-sound-requires c κs =
-    let k = c .before .before in
-    let s = k .before .before .before .before .before in
-    pooled _ _ _ (s .pre) (k .scan-words .ensures) (c .if1 .left)
+loop-holds : tie.Need-loop-holds Inv-loop μ-loop
+loop-holds c = testing-none _ _ _ (c .before .before .before .before .pre)
 
-returns-2 : tie.Need-returns-2
-returns-2 c =
-    let f = c .before .before in
-    let t = f .before in
-    let k = t .before .before in
-    let s = k .before .before .before .before .before in
-    rw (c .failed2 .ensures) (files-fail _ _ _ (s .pre) (k .scan-words .ensures) (t .if1 .left) _ (f .files-sound .ensures) (c .before .if2 .taken))
-
-tally-files-requires : tie.Need-tally-files-requires
-tally-files-requires c κs =
+test-file-requires : tie.Need-test-file-requires Inv-loop μ-loop
+test-file-requires c κs =
     let i = c .before in
-    let f = i .before in
-    let t = f .before in
-    let k = t .before .before in
-    let s = k .before .before .before .before .before in
-    talliable _ _ _ (s .pre) (k .scan-words .ensures) (t .if1 .left) _ (f .files-sound .ensures) (i .if2 .left)
+    let l = i .before .before in
+    file-ready (l .before .before .before .before .before .pre .shaped) (l .loop .inv) (i .if1 .taken)
 
-returns-3 : tie.Need-returns-3
-returns-3 c =
-    let y = c .before .before in
-    let i = y .before .before in
-    let f = i .before in
-    let t = f .before in
-    let k = t .before .before in
-    let s = k .before .before .before .before .before in
-    tested _ _ _ (s .pre) (k .scan-words .ensures) (t .if1 .left) _ (f .files-sound .ensures) (i .if2 .left) (y .tally-files .kept .1 .1 .1 .0) (y .tally-files .ensures)
+returns : tie.Need-returns Inv-loop μ-loop
+returns c =
+    let e = c .before in
+    let t = e .before .before .before .before in
+    let i = t .before .before in
+    let l = i .before .before in
+    rw (c .failed .ensures)
+    (testing-fails (l .before .before .before .before .before .pre .shaped) (l .loop .inv) (i .if1 .taken) (t .test-file .ensures) (not-true _ (e .if2 .taken)))
+
+add-held : tie.Need-add-held Inv-loop μ-loop
+add-held c =
+    let e = c .before in
+    let t = e .before .before .before .before in
+    let i = t .before .before in
+    let l = i .before .before in
+    let h = l .before .before .before .before .before .pre .shaped in
+    omega (arith, held-small h (l .loop .inv), more-small h (l .loop .inv) (i .if1 .taken) (t .test-file .ensures) (not-false _ (e .if2 .left)))
+
+add-reserved : tie.Need-add-reserved Inv-loop μ-loop
+add-reserved c =
+    let e = c .before .before in
+    let t = e .before .before .before .before in
+    let i = t .before .before in
+    let l = i .before .before in
+    let h = l .before .before .before .before .before .pre .shaped in
+    omega (arith, reserved-small h (l .loop .inv), too-small h (l .loop .inv) (i .if1 .taken) (t .test-file .ensures) (not-false _ (e .if2 .left)))
+
+loop-again : tie.Need-loop-again Inv-loop μ-loop
+loop-again c =
+    let e = c .before .before in
+    let t = e .before .before .before .before in
+    let i = t .before .before in
+    let l = i .before .before in
+    let h = l .before .before .before .before .before .pre .shaped in
+    testing-more h (l .loop .inv) (i .if1 .taken) (t .test-file .ensures) (not-false _ (e .if2 .left))
+
+same-length : tie.Need-same-length Inv-loop μ-loop
+same-length c =
+    let t = c .before .before .before .before .before in
+    let l = t .before .before .before .before in
+    t .test-file .kept .1 .1 .1 .1 .0 ∙ l .loop .inv .long ∙ sym (ready-long _ _ _ (l .before .before .before .before .before .pre))
+
+same-length-2 : tie.Need-same-length-2 Inv-loop μ-loop
+same-length-2 c = let l = c .before .before in l .loop .inv .long ∙ sym (ready-long _ _ _ (l .before .before .before .before .before .pre))
+
+returns-2 : tie.Need-returns-2 Inv-loop μ-loop
+returns-2 c =
+    let l = c .before .before in
+    testing-all (l .before .before .before .before .before .pre .shaped) (l .loop .inv) (c .if1 .left)
 
 pub test-tables-spec : {M : Type 1} → statement M
 test-tables-spec =
     tie.close
     (tie.spec
-    scan-words-requires (λ c κs. search needs) returns files-sound-requires (λ c κs. search needs) returns-2 tally-files-requires
-    (λ c. search needs) returns-3)
+    Inv-loop μ-loop loop-holds test-file-requires (λ c κs. search needs) same-length returns add-held add-reserved (λ c. omega arith)
+    (λ c. omega arith) loop-again same-length-2 returns-2)

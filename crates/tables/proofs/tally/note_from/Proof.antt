@@ -10,18 +10,20 @@ use Rattle.tables.proofs.TallyLaws.{noted-one, group-fits, noted-group}
 use Rattle.tables.proofs.tally.note_from.Statement.{statement}
 use Rattle.tables.proofs.tally.note_from.Tie as tie
 
-part-note-group-end : tie.Need-part-note-group-end
-part-note-group-end c =
+part-note-each-end : tie.Need-part-note-each-end
+part-note-each-end c =
     let g = c .before in
     let a = g .before .before .before .args in
     omega (arith, group-room (a .i) (length (a .words .now)) (sym (g .group-at .ensures) ∙ and-left (g .group-at .result) (leb 16 (length (a .counts .now))) (c .if1 .taken)))
 
-note-group-requires : tie.Need-note-group-requires
-note-group-requires c κs =
+note-each-requires : tie.Need-note-each-requires
+note-each-requires c κs =
     let i = c .before .before in
     let s = i .before .before .before .before in
     let a = s .args in
-    group-fits (a .words .now) (a .counts .now) (a .i) (s .pre) (leb-true 16 _ (and-right (i .before .group-at .result) (leb 16 (length (a .counts .now))) (i .if1 .taken)))
+    group-fits (a .words .now) (a .counts .now) (a .i)
+    (sym (i .before .group-at .ensures) ∙ and-left (i .before .group-at .result) (leb 16 (length (a .counts .now))) (i .if1 .taken))
+    (s .pre) (leb-true 16 _ (and-right (i .before .group-at .result) (leb 16 (length (a .counts .now))) (i .if1 .taken)))
 
 returns : tie.Need-returns
 returns c =
@@ -30,7 +32,7 @@ returns c =
     let a = i .before .before .before .before .args in
     noted-group (a .words .now) (a .counts .now) (a .i)
     (sym (i .before .group-at .ensures) ∙ and-left (i .before .group-at .result) (leb 16 (length (a .counts .now))) (i .if1 .taken))
-    (n .note-group .ensures)
+    (n .note-each .ensures)
 
 note-requires : tie.Need-note-requires
 note-requires c κs =
@@ -47,5 +49,5 @@ pub note-from-spec : {M : Type 1} → statement M
 note-from-spec =
     tie.close
     (tie.spec
-    (λ c κs. search needs) (λ c. search needs) (λ c. search needs) (λ c. search needs) (λ c. search needs) part-note-group-end
-    note-group-requires (λ c. search needs) returns (λ c. search needs) (λ c. search needs) note-requires (λ c. search needs) returns-2)
+    (λ c κs. search needs) (λ c. search needs) (λ c. search needs) (λ c. search needs) (λ c. search needs) part-note-each-end
+    note-each-requires (λ c. search needs) returns (λ c. search needs) (λ c. search needs) note-requires (λ c. search needs) returns-2)

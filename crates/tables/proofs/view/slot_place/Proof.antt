@@ -3,15 +3,15 @@ use mathlib.Core.Path.{refl, sym, _∙_}
 use native.Mathlib.Omega.{arith}
 use lib.ListN.{getD}
 use Rattle.tables.specs.Lent.{geometryOf}
-use Rattle.tables.proofs.FileTests.{FileRoom, block-end}
-use Rattle.tables.proofs.SlotLaws.{slot-known, slot-room, place-refused, place-hole, place-block}
+use Rattle.tables.proofs.FileTests.{block-end}
+use Rattle.tables.proofs.SlotLaws.{SlotRoom, slot-known, slot-room, place-refused, place-hole, place-block}
 use borrow.Author.Needs.{needs}
 use Rattle.tables.proofs.view.slot_place.Statement.{statement}
 use Rattle.tables.proofs.view.slot_place.Tie as tie
 
 -- past the refusals: the slot's word is in its table, and its block in the memory
 room : (c : tie.After-struct-known)
-    → let a = c .before .before .before .before .before .before .before .args in FileRoom (geometryOf (a .g)) (record { sizes = a .sizes .now; words = a .words .now; mem = a .mem .now }) (a .f) × (a .k < a .g .slots)
+    → let a = c .before .before .before .before .before .before .before .args in SlotRoom (geometryOf (a .g)) (record { sizes = a .sizes .now; words = a .words .now; mem = a .mem .now }) (a .f) × (a .k < a .g .slots)
 room c =
     let k = slot-known _ _ _ _ _ (sym (c .before .before .slot-refusal .ensures) ∙ c .before .if1 .left) in
     (slot-room _ _ _ _ _ k, k .slot)

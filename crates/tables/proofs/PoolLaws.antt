@@ -10,7 +10,7 @@ use native.Mathlib.Omega.{arith}
 use borrow.Author.Tests.{not-true, lt-ltb, ltb-true, le-leb, lt-leb}
 use lib.ListN.{length, length-take, getD, take, drop, List·getD-eq-default}
 use lib.Seq.{drop-drop}
-use lib.Dec.{leb, ltb}
+use lib.Dec.{leb, ltb, eqb}
 use Rattle.rules.specs.Lists.{bit, count, sumTo, countTo, allTo}
 use Rattle.rules.specs.Store.{isHole, isReserved, isShared, holders, blockBound, used, owes, owed, need, fitsPool, lowestFree}
 use Rattle.tables.specs.Tables.{Tallied, TableTrue}
@@ -19,7 +19,7 @@ use Rattle.tables.specs.declared.groups.Sort.{Sort}
 use Rattle.tables.specs.Groups.{ofSort, groupAt, groupAll}
 use Rattle.rules.proofs.CountLaws.{sumTo-ext, count-drop, count-parts, count-none-at, count-most}
 use Rattle.rules.proofs.NeedLaws.{lowestFree-free, scan-ends, used-to}
-use Rattle.rules.proofs.BoundLaws.{count-right, owed-reserved, need-bound}
+use Rattle.rules.proofs.BoundLaws.{count-right, owed-reserved, need-bound, owed-alone}
 use Rattle.rules.proofs.SoundLaws.{allTo-at}
 use Rattle.rules.proofs.PlanLaws.{InPool}
 use Rattle.tables.proofs.GroupLaws.{group-room, group-inside, group-each}
@@ -203,6 +203,10 @@ module _ {ws cs : List ℕ} (known : TableTrue ws cs) where
 
   true-used : count (ltb 0) cs ≡ used ws
   true-used = tallied-used ws cs (known .table) (known .pool)
+
+  -- as many used blocks as slots that hold one: no block is shared
+  pub alone-owed : count (ltb 1) ws ≡ count (ltb 0) cs → count (λ w. eqb w 1) ws ≡ count (owesBy cs) ws
+  alone-owed e = owed-alone ws (sym (e ∙ true-used)) ∙ sym (tallied-owed ws cs (known .table) (known .pool))
 
   -- nothing reserved
   pub fits-unreserved : count isReserved ws ≡ 0 → true ≡ fitsPool (length cs) ws

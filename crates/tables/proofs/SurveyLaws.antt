@@ -24,7 +24,7 @@ use Rattle.rules.proofs.SoundStore.{ceil-le}
 use Rattle.rules.proofs.PlanLaws.{InPool}
 use Rattle.xdr.proofs.BoolLaws.{and-left, and-right, and-both}
 use Rattle.tables.proofs.TallyLaws.{count-from, formed-pool}
-use Rattle.tables.proofs.PoolLaws.{allTo-fails, tallied-used, tallied-owed, looked-up}
+use Rattle.tables.proofs.PoolLaws.{allTo-fails, tallied-used, tallied-owed}
 use Rattle.tables.proofs.CallLaws.{survey-unsound, survey-sound}
 use Rattle.tables.proofs.FileTests.{file-fits, file-past}
 
@@ -222,8 +222,8 @@ module _ (g : Geometry) (st : Store) {after : List ℕ} {pass : Bool} {held rese
     true-table = room-known .counted
 
     -- what `owed_of` asks
-    pub owed-known : OwedKnown reserved (st .words) after
-    owed-known = record { looked-up = looked-up true-table; reserved-is = room-known .reserved-is }
+    pub owed-known : {u : ℕ} → u ≡ count (ltb 0) after → OwedKnown held u reserved (st .words) after
+    owed-known e = record { room = room-known; used-is = e }
 
     pub judge-room : {fits : Bool} → fits ≡ fitsPool (length after) (st .words) → TableJudged g st fits after
     judge-room e = record { judged = e ∙ ap (λ (n : ℕ). fitsPool n (st .words)) long ∙ sym sound-is; table = λ q. true-table }

@@ -12,6 +12,7 @@ use Rattle.tables.specs.declared.groups.Sort.{Sort}
 abbrev pub ofSort : Sort → ℕ → Bool
 ofSort (Sort.AtMost m) n = leb n m
 ofSort (Sort.Above m) n = ltb m n
+ofSort (Sort.Equal m) n = eqb n m
 ofSort Sort.Reserved w = isReserved w
 ofSort Sort.Unreserved w = not (isReserved w)
 

@@ -109,16 +109,16 @@ takesBy counts w = isHole w || ltb 1 (getD counts (pred (w / 2)) 0)
 abbrev pub owesBy : List ℕ → ℕ → Bool
 owesBy counts w = takesBy counts w && isReserved w
 
--- slots of which so many are reserved
-pub record OwedKnown (reserved : ℕ) (ws counts : List ℕ) : Type 0 where
-  pub looked-up : InTable ws counts
-  pub reserved-is : reserved ≡ count isReserved ws
-
--- and so many hold a block, in a true table
+-- slots of which so many hold a block and so many are reserved, in a true table
 pub record RoomKnown (held reserved : ℕ) (ws counts : List ℕ) : Type 0 where
   pub counted : TableTrue ws counts
   pub held-is : held ≡ count (ltb 1) ws
   pub reserved-is : reserved ≡ count isReserved ws
+
+-- and so many blocks are used
+pub record OwedKnown (held used reserved : ℕ) (ws counts : List ℕ) : Type 0 where
+  pub room : RoomKnown held reserved ws counts
+  pub used-is : used ≡ count (ltb 0) counts
 
 -- of the n slots from i on, at least one, `owed` owe a block
 pub record OwedFrom (ws counts : List ℕ) (i n owed : ℕ) : Type 0 where

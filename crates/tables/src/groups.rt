@@ -11,6 +11,7 @@ ghost use Rattle.tables.specs.Groups.{groupAt, ofSort, groupAll};
 pub enum Sort {
     AtMost(u32),
     Above(u32),
+    Equal(u32),
     // The word of a slot: it is reserved, or it is not.
     Reserved,
     Unreserved,
@@ -39,6 +40,7 @@ fn of_sort(sort: Sort, n: u32) -> bool
     match sort {
         Sort::AtMost(most) => n <= most,
         Sort::Above(least) => least < n,
+        Sort::Equal(m) => n == m,
         Sort::Reserved => n % 2 == 1,
         Sort::Unreserved => n % 2 != 1,
     }

@@ -102,13 +102,17 @@ pub fn owed_slots(words: &[u32], counts: &[u32]) -> usize
     n
 }
 
-// The same where so many are reserved: without one nothing is owed.
-pub fn owed_of(reserved: usize, words: &[u32], counts: &[u32]) -> usize
-    requires { ⌜ OwedKnown reserved (now words) (now counts) ⌝ }
+// The same where so many slots hold a block, so many blocks are used and so many slots are reserved. Without a reserved slot nothing
+// is owed. Where each slot that holds a block holds it alone, reserved holes are.
+pub fn owed_of(held: usize, used: usize, reserved: usize, words: &[u32], counts: &[u32]) -> usize
+    requires { ⌜ OwedKnown held used reserved (now words) (now counts) ⌝ }
     ensures { λ r. ⌜ r ≡ count (owesBy (now (counts .entry))) (now (words .entry)) ⌝ }
 {
     if reserved == 0 {
         return 0;
+    }
+    if held == used {
+        return count_of_sort(Sort::Equal(1), words);
     }
     owed_slots(words, counts)
 }
@@ -125,7 +129,8 @@ pub fn fits_of(held: usize, reserved: usize, words: &[u32], counts: &[u32]) -> b
     if held + reserved <= counts.len() {
         return true;
     }
-    used_blocks(counts) + owed_slots(words, counts) <= counts.len()
+    let used = used_blocks(counts);
+    used + owed_of(held, used, reserved, words, counts) <= counts.len()
 }
 
 // The same, counting those slots.

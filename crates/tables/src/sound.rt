@@ -152,7 +152,7 @@ fn survey_tables(
         return Surveyed::refused(Surveyed::UNSOUND);
     }
     let used = used_blocks(counts);
-    let owed = owed_of(t.reserved, words, counts);
+    let owed = owed_of(t.held, used, t.reserved, words, counts);
     if g.blocks < used + owed {
         return Surveyed::refused(Surveyed::UNSOUND);
     }

@@ -5,7 +5,7 @@ use borrow.Author.Needs.{needs}
 use Rattle.rules.specs.Store.{isReserved}
 use Rattle.tables.specs.Tally.{owesBy}
 use Rattle.rules.proofs.CountLaws.{count-most}
-use Rattle.tables.proofs.PoolLaws.{looked-up, fits-unreserved, fits-bound, fits-counted}
+use Rattle.tables.proofs.PoolLaws.{fits-unreserved, fits-bound, fits-counted}
 use Rattle.tables.proofs.pool.fits_of.Statement.{statement}
 use Rattle.tables.proofs.pool.fits_of.Tie as tie
 
@@ -23,8 +23,8 @@ returns-2 c =
     let s = c .before .before .before .before in
     fits-bound (s .pre .counted) (omega (arith, s .pre .held-is, s .pre .reserved-is, c .if2 .taken))
 
-owed-slots-requires : tie.Need-owed-slots-requires
-owed-slots-requires c κs = looked-up (c .before .before .before .before .before .pre .counted)
+owed-of-requires : tie.Need-owed-of-requires
+owed-of-requires c κs = record { room = c .before .before .before .before .before .pre; used-is = c .used-blocks .ensures }
 
 add-result : tie.Need-add-result
 add-result c =
@@ -38,7 +38,7 @@ add-result c =
       k .few,
       k .most,
       u .used-blocks .ensures,
-      c .owed-slots .ensures,
+      c .owed-of .ensures,
       count-most (ltb 0) cs,
       count-most (ltb 0) ws,
       count-most (owesBy cs) ws,
@@ -47,10 +47,10 @@ add-result c =
 returns-3 : tie.Need-returns-3
 returns-3 c =
     let u = c .before in
-    fits-counted (u .before .before .before .before .before .pre .counted) _ _ (u .used-blocks .ensures) (c .owed-slots .ensures)
+    fits-counted (u .before .before .before .before .before .pre .counted) _ _ (u .used-blocks .ensures) (c .owed-of .ensures)
 
 pub fits-of-spec : {M : Type 1} → statement M
 fits-of-spec =
     tie.close
     (tie.spec
-    returns add-if2 returns-2 (λ c κs. search needs) owed-slots-requires add-result returns-3)
+    returns add-if2 returns-2 (λ c κs. search needs) owed-of-requires add-result returns-3)

@@ -21,10 +21,11 @@ used-blocks-requires c κs =
 
 owed-of-requires : tie.Need-owed-of-requires
 owed-of-requires c κs =
-    let i = c .before .before .before in
+    let u = c .before in
+    let i = u .before .before in
     let t = i .before .before .before .before in
     let s = t .before .before .before .before .before .before in
-    owed-known _ _ (s .pre .shaped) (t .test-tables .kept .1 .1 .1 .1 .0 ∙ ready-long _ _ _ (s .pre)) (t .test-tables .ensures) (i .if1 .left)
+    owed-known _ _ (s .pre .shaped) (t .test-tables .kept .1 .1 .1 .1 .0 ∙ ready-long _ _ _ (s .pre)) (t .test-tables .ensures) (i .if1 .left) (u .used-blocks .ensures)
 
 add-if2 : tie.Need-add-if2
 add-if2 c =

@@ -170,12 +170,10 @@ pub record MakePromise (g : Geometry) (st : Store) (number : ℕ) (after : Store
   pub words-are : after .words ≡ madeStore g st .words
   pub mem-is : after .mem ≡ madeStore g st .mem
 
--- ---- say whether a store is sound
+-- ---- survey a store: whether it is sound, with its used and owed blocks (request K8 made one call of two); zero counts on a refusal
 
 unfoldable pub storeRefusal : Geometry → Store → ℕ
 storeRefusal g st = first ((not (goodGeometry g), 1) ∷ (not (goodLengths g st), 2) ∷ (not (sound g st), 3) ∷ [])
-
--- ---- count used and owed blocks: zero on a refusal
 
 unfoldable pub usedCount : Geometry → Store → ℕ
 usedCount g st = cond (eqb (storeRefusal g st) 0) (used (st .words)) 0

@@ -154,8 +154,10 @@ module _ (g : Geometry) (st : Store) (counts : List ℕ) (f : ℕ) (ready : File
                   long = scan .noted ok .long;
                   each = λ b h. scan .noted ok .each b h ∙ ap (λ (n : ℕ). getD counts b 0 + n) (sym (head-counts (holds b) (ne-eqb 0 (suc b) (λ (q : 0 ≡ suc b). omega arith))));
                 };
-                held-is = scan .scanned .held-is ∙ sym (head-counts (ltb 1) refl);
-                reserved-is = scan .scanned .reserved-is ∙ sym (head-counts isReserved refl);
+                slots = record {
+                  held-is = scan .scanned .slots .held-is ∙ sym (head-counts (ltb 1) refl);
+                  reserved-is = scan .scanned .slots .reserved-is ∙ sym (head-counts isReserved refl);
+                };
               };
             }
 

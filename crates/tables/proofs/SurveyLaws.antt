@@ -150,10 +150,10 @@ module _ {g : Geometry} {st : Store} {counts : List ℕ} {f held reserved : ℕ}
 
     module _ (ok : pass ≡ true) where
       pub more-small : more ≤ 65536
-      more-small = omega (arith, r .counted ok .held-is, split (ltb 1), t .held-rest, count-most (ltb 1) (st .words), most-words)
+      more-small = omega (arith, r .counted ok .slots .held-is, split (ltb 1), t .held-rest, count-most (ltb 1) (st .words), most-words)
 
       pub too-small : too ≤ 65536
-      too-small = omega (arith, r .counted ok .reserved-is, split isReserved, t .reserved-rest, count-most isReserved (st .words), most-words)
+      too-small = omega (arith, r .counted ok .slots .reserved-is, split isReserved, t .reserved-rest, count-most isReserved (st .words), most-words)
 
       pub testing-more : Testing g st after (f + 1) (held + more) (reserved + too)
       testing-more =
@@ -165,8 +165,8 @@ module _ {g : Geometry} {st : Store} {counts : List ℕ} {f held reserved : ℕ}
             each = λ b k.
                 let m : b < length counts = omega (arith, n .long) in
                 omega (arith, n .each b m, split (holds b), t .each b m);
-            held-rest = omega (arith, r .counted ok .held-is, split (ltb 1), t .held-rest);
-            reserved-rest = omega (arith, r .counted ok .reserved-is, split isReserved, t .reserved-rest);
+            held-rest = omega (arith, r .counted ok .slots .held-is, split (ltb 1), t .held-rest);
+            reserved-rest = omega (arith, r .counted ok .slots .reserved-is, split isReserved, t .reserved-rest);
           }
 
   pub testing-all : g .F ≤ f → TableTested g st true held reserved counts
@@ -185,8 +185,7 @@ module _ {g : Geometry} {st : Store} {counts : List ℕ} {f held reserved : ℕ}
             some = rw (t .long) (good g (h .geometry) .blocks);
             most = rw (t .long) (good g (h .geometry) .blocks-most);
           };
-          held-is = omega (arith, t .held-rest, none (ltb 1));
-          reserved-is = omega (arith, t .reserved-rest, none isReserved);
+          slots = record { held-is = omega (arith, t .held-rest, none (ltb 1)); reserved-is = omega (arith, t .reserved-rest, none isReserved) };
         };
       }
     where

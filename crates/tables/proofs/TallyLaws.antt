@@ -17,7 +17,7 @@ use Rattle.rules.specs.Store.{isHole, holds, holders}
 use Rattle.tables.specs.Tally.{noted, Scanned, Scannable, Known, HoldAll, NotesFit, NotesFitAs, NotesFitFrom, NotedAll, NotedFrom}
 use Rattle.tables.specs.declared.tally.Slots.{Slots}
 use Rattle.tables.specs.Groups.{groupAt}
-use Rattle.rules.proofs.CountLaws.{count-drop, count-parts, count-all-at}
+use Rattle.rules.proofs.CountLaws.{count-drop, count-parts, count-end, count-all-at}
 use Rattle.rules.proofs.BoundLaws.{holders-held}
 use Rattle.rules.proofs.SoundLaws.{allTo-at}
 use Rattle.rules.proofs.PlanLaws.{InPool}
@@ -138,8 +138,6 @@ pub known-at : (slots : Slots) (ws before counts : List ℕ) (i : ℕ) → i < l
 known-at Slots.Held ws before counts i h e all = all i h
 known-at Slots.Mixed ws before counts i h e l = omega arith
 
--- ---- in groups
-
 -- one slot noted
 pub noted-one : (ws cs : List ℕ) (i : ℕ) → i < length ws → NotedFrom ws i 1 cs (noted (getD ws i 0 / 2) cs)
 noted-one ws cs i h = record {
@@ -148,6 +146,30 @@ noted-one ws cs i h = record {
   long = length-noted (getD ws i 0 / 2) cs;
   rest = λ b k. noted-turn ws cs i b h k;
 }
+
+-- ---- a loop that notes: the words before place i are noted
+
+pub record Noting (ws before counts : List ℕ) (i : ℕ) : Type 0 where
+  pub within : i ≤ length ws
+  pub long : length counts ≡ length before
+  pub each : (b : ℕ) → b < length counts → getD counts b 0 + holders b (drop i ws) ≡ getD before b 0 + holders b ws
+
+pub noting-none : (ws before : List ℕ) → Noting ws before before 0
+noting-none ws before = record { within = omega arith; long = refl; each = λ b h. refl }
+
+module _ {ws before counts : List ℕ} {i : ℕ} (t : Noting ws before counts i) where
+  -- n more of them
+  pub noting-more : {n : ℕ} {after : List ℕ} → NotedFrom ws i n counts after → Noting ws before after (i + n)
+  noting-more r = record {
+    within = r .inside;
+    long = r .long ∙ t .long;
+    each = λ b h. r .rest b (omega (arith, r .long)) ∙ t .each b (omega (arith, r .long));
+  }
+
+  pub noting-all : length ws ≤ i → NotedAll ws before counts
+  noting-all l = record { long = t .long; each = λ b h. omega (arith, t .each b (omega (arith, t .long)), count-end (holds b) ws i l) }
+
+-- ---- in groups
 
 -- a group of them, as the code takes it
 module _ (ws cs : List ℕ) (i : ℕ) where

@@ -4,12 +4,12 @@ use mathlib.Core.Path.{_≡_}
 use mathlib.Core.Bool.{Bool, true, _&&_}
 use mathlib.Core.List.{List}
 use lib.ListN.{length, getD, replicate}
-use lib.Dec.{leb, ltb}
-use Rattle.rules.specs.Lists.{allTo, count, ceilDiv}
-use Rattle.rules.specs.Store.{Geometry, Store, sizeOf, wordOf, isReserved, holders, soundFile, sound}
+use lib.Dec.{leb}
+use Rattle.rules.specs.Lists.{allTo, ceilDiv}
+use Rattle.rules.specs.Store.{Geometry, Store, sizeOf, wordOf, holders, soundFile, sound}
 use Rattle.rules.specs.Attributes.{slotsOf}
 use Rattle.tables.specs.Tables.{Shaped, TableTrue}
-use Rattle.tables.specs.Tally.{NotedAll, RoomKnown}
+use Rattle.tables.specs.Tally.{SlotCounts, NotedAll, RoomKnown}
 
 -- a zero for each block
 pub record TableReady (g : Geometry) (st : Store) (counts : List ℕ) : Type 0 where
@@ -30,11 +30,10 @@ tablesPass g st = allTo (g .F * g .S) (λ i. leb (getD (st .words) i 0 / 2) (g .
 abbrev pub filePasses : Geometry → Store → ℕ → Bool
 filePasses g st f = allTo (ceilDiv (sizeOf st f) (g .B)) (λ k. leb (wordOf g (st .words) f k / 2) (g .N)) && soundFile g st f
 
--- slots noted, so many of them hold a block, and so many are reserved
+-- slots noted, and counted
 pub record SlotsCounted (ws before : List ℕ) (held reserved : ℕ) (after : List ℕ) : Type 0 where
   pub noted : NotedAll ws before after
-  pub held-is : held ≡ count (ltb 1) ws
-  pub reserved-is : reserved ≡ count isReserved ws
+  pub slots : SlotCounts ws held reserved
 
 -- a table of one number for each block, to which the slots of file f can be added
 pub record FileReady (g : Geometry) (st : Store) (counts : List ℕ) (f : ℕ) : Type 0 where

@@ -11,11 +11,15 @@ use Rattle.rules.proofs.PlanLaws.{InPool}
 use Rattle.tables.specs.Tables.{TableTrue}
 use Rattle.tables.specs.declared.tally.Slots.{Slots}
 
--- what one pass tells of words, for a pool of n blocks; a word above 1 holds a block
-pub record Scanned (ws : List ℕ) (n : ℕ) (formed : Bool) (held reserved : ℕ) : Type 0 where
-  pub formed-is : formed ≡ allTo (length ws) (λ i. leb (getD ws i 0 / 2) n)
+-- so many slots hold a block, as their word is above 1, and so many are reserved
+pub record SlotCounts (ws : List ℕ) (held reserved : ℕ) : Type 0 where
   pub held-is : held ≡ count (ltb 1) ws
   pub reserved-is : reserved ≡ count isReserved ws
+
+-- what one pass tells of words, for a pool of n blocks: whether each names one of them or none, and those counts
+pub record Scanned (ws : List ℕ) (n : ℕ) (formed : Bool) (held reserved : ℕ) : Type 0 where
+  pub formed-is : formed ≡ allTo (length ws) (λ i. leb (getD ws i 0 / 2) n)
+  pub slots : SlotCounts ws held reserved
 
 -- the counts with one more for block k - 1; a hole's k is 0
 unfoldable pub noted : ℕ → List ℕ → List ℕ
@@ -42,6 +46,7 @@ abbrev pub Known : Slots → Type 0 → Type 0 → Type 0
 Known Slots.Held held room = held
 Known Slots.Mixed held room = room
 
+-- a slot of which that is known, `own` being the number that it may add nothing to
 pub record NotableAs (slots : Slots) (w own : ℕ) (counts : List ℕ) : Type 0 where
   pub fits : Notable w counts
   pub known : Known slots (0 < w / 2) (own < length counts)
@@ -52,6 +57,7 @@ pub record NotesFit (ws counts : List ℕ) : Type 0 where
   pub few : (b : ℕ) → b < length counts → getD counts b 0 + holders b ws ≤ 65536
   pub short : length ws ≤ 65536
 
+-- the same of words that have each a number of the table
 pub record NotesFitAs (slots : Slots) (ws counts : List ℕ) : Type 0 where
   pub fits : NotesFit ws counts
   pub known : Known slots ((i : ℕ) → i < length ws → 0 < getD ws i 0 / 2) (length ws ≤ length counts)
@@ -60,6 +66,7 @@ pub record NotesFitAs (slots : Slots) (ws counts : List ℕ) : Type 0 where
 abbrev pub HoldAll : Slots → List ℕ → Type 0
 HoldAll slots ws = Known slots ((i : ℕ) → i < length ws → 0 < getD ws i 0 / 2) (Unit {0})
 
+-- words that are noted in groups
 pub record GroupsFit (slots : Slots) (ws counts : List ℕ) : Type 0 where
   pub fits : NotesFit ws counts
   pub known : HoldAll slots ws
@@ -89,6 +96,7 @@ pub record Scannable (ws counts : List ℕ) : Type 0 where
   pub short : length ws ≤ 65536
   pub few : (b : ℕ) → b < length counts → getD counts b 0 + holders b ws ≤ 65536
 
+-- what the scan tells, and one holder more for each of words that pass it
 pub record ScannedNoted (ws before : List ℕ) (formed : Bool) (held reserved : ℕ) (after : List ℕ) : Type 0 where
   pub scanned : Scanned ws (length before) formed held reserved
   pub noted : formed ≡ true → NotedAll ws before after
@@ -105,15 +113,14 @@ pub record InTable (ws counts : List ℕ) : Type 0 where
 abbrev pub takesBy : List ℕ → ℕ → Bool
 takesBy counts w = isHole w || ltb 1 (getD counts (pred (w / 2)) 0)
 
--- a slot with word w owes a block, by the counts (`owes` of Blocks)
+-- a slot with word w owes a block, by the counts (`owes` of Store)
 abbrev pub owesBy : List ℕ → ℕ → Bool
 owesBy counts w = takesBy counts w && isReserved w
 
 -- slots of which so many hold a block and so many are reserved, in a true table
 pub record RoomKnown (held reserved : ℕ) (ws counts : List ℕ) : Type 0 where
   pub counted : TableTrue ws counts
-  pub held-is : held ≡ count (ltb 1) ws
-  pub reserved-is : reserved ≡ count isReserved ws
+  pub slots : SlotCounts ws held reserved
 
 -- and so many blocks are used
 pub record OwedKnown (held used reserved : ℕ) (ws counts : List ℕ) : Type 0 where

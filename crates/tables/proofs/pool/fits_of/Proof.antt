@@ -10,18 +10,18 @@ use Rattle.tables.proofs.pool.fits_of.Statement.{statement}
 use Rattle.tables.proofs.pool.fits_of.Tie as tie
 
 returns : tie.Need-returns
-returns c = let s = c .before .before .before in fits-unreserved (s .pre .counted) (sym (s .pre .reserved-is) ∙ c .if1 .taken)
+returns c = let s = c .before .before .before in fits-unreserved (s .pre .counted) (sym (s .pre .slots .reserved-is) ∙ c .if1 .taken)
 
 add-if2 : tie.Need-add-if2
 add-if2 c =
     let s = c .before .before .before in
     let ws = s .args .words .now in
-    omega (arith, s .pre .counted .few, s .pre .held-is, s .pre .reserved-is, count-most (ltb 1) ws, count-most isReserved ws)
+    omega (arith, s .pre .counted .few, s .pre .slots .held-is, s .pre .slots .reserved-is, count-most (ltb 1) ws, count-most isReserved ws)
 
 returns-2 : tie.Need-returns-2
 returns-2 c =
     let s = c .before .before .before .before in
-    fits-bound (s .pre .counted) (omega (arith, s .pre .held-is, s .pre .reserved-is, c .if2 .taken))
+    fits-bound (s .pre .counted) (omega (arith, s .pre .slots .held-is, s .pre .slots .reserved-is, c .if2 .taken))
 
 owed-of-requires : tie.Need-owed-of-requires
 owed-of-requires c κs = record { room = c .before .before .before .before .before .pre; used-is = c .used-blocks .ensures }

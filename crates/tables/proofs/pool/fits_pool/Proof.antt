@@ -14,7 +14,7 @@ fits-of-requires : tie.Need-fits-of-requires
 fits-of-requires c κs =
     let h = c .before in
     let k = h .before .before in
-    record { counted = k .before .before .before .pre; held-is = h .count-of-sort .ensures; reserved-is = c .count-of-sort2 .ensures }
+    record { counted = k .before .before .before .pre; slots = record { held-is = h .count-of-sort .ensures; reserved-is = c .count-of-sort2 .ensures } }
 
 pub fits-pool-spec : {M : Type 1} → statement M
 fits-pool-spec =

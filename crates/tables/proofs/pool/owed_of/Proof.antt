@@ -7,7 +7,7 @@ use Rattle.tables.proofs.pool.owed_of.Tie as tie
 returns : tie.Need-returns
 returns c =
     let s = c .before .before .before in
-    sym (none-owed (s .args .counts .now) (s .args .words .now) (sym (s .pre .room .reserved-is) ∙ c .if1 .taken))
+    sym (none-owed (s .args .counts .now) (s .args .words .now) (sym (s .pre .room .slots .reserved-is) ∙ c .if1 .taken))
 
 count-of-sort-requires : tie.Need-count-of-sort-requires
 count-of-sort-requires c κs = c .before .before .before .before .pre .room .counted .few
@@ -16,7 +16,7 @@ returns-2 : tie.Need-returns-2
 returns-2 c =
     let i = c .before in
     let s = i .before .before .before .before in
-    c .count-of-sort .ensures ∙ alone-owed (s .pre .room .counted) (sym (s .pre .room .held-is) ∙ i .if2 .taken ∙ s .pre .used-is)
+    c .count-of-sort .ensures ∙ alone-owed (s .pre .room .counted) (sym (s .pre .room .slots .held-is) ∙ i .if2 .taken ∙ s .pre .used-is)
 
 owed-slots-requires : tie.Need-owed-slots-requires
 owed-slots-requires c κs = looked-up (c .before .before .before .before .pre .room .counted)

@@ -67,8 +67,10 @@ returns c =
     let e : l .loop .i ≡ length ws = omega arith in
     record {
       formed-is = rw e at (v .0) ∙ words-most ws (a .blocks);
-      held-is = omega (arith, v .1 .0, count-end (ltb 1) ws (l .loop .i) (c .loop-test .left));
-      reserved-is = omega (arith, v .1 .1, count-end isReserved ws (l .loop .i) (c .loop-test .left));
+      slots = record {
+        held-is = omega (arith, v .1 .0, count-end (ltb 1) ws (l .loop .i) (c .loop-test .left));
+        reserved-is = omega (arith, v .1 .1, count-end isReserved ws (l .loop .i) (c .loop-test .left));
+      };
     }
 
 pub scan-words-spec : {M : Type 1} → statement M

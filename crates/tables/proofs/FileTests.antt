@@ -1,10 +1,10 @@
--- Laws on the test of files: its loops, the slots past a file's size, and the bytes of its last slot past the size.
+-- Laws on the test of files: the slots past a file's size, and the bytes of its last slot past the size.
 use Prim.Native.Nat.{ℕ, zero, suc, _+_, _-_, _*_, _/_, _%_, _≤_, _<_}
 use mathlib.Core.Path.{_≡_, refl, sym, _∙_}
-use mathlib.Core.Bool.{Bool, true, false, _&&_, _||_, not, true≢false}
+use mathlib.Core.Bool.{Bool, true, false, _&&_, _||_, not}
 use mathlib.Core.List.{List}
 use native.Mathlib.Nat.{le-refl, add-zero, add-suc, add-assoc, add-sub-of-le, div-add-mod', mod-lt, mul-le-mul-right, le-of-mul-le-mul-right, mul-add-div-right, mul-add-mod-self-right, div-eq-of-lt, mod-eq-of-lt}
-use native.Mathlib.Numerals.{add-one, sub-one}
+use native.Mathlib.Numerals.{sub-one}
 use native.Mathlib.Decide.{decLe}
 use native.Mathlib.Omega.{arith}
 use borrow.Author.Tests.{lt-ltb, le-ltb, leb-true, le-leb, lt-leb, eq-eqb, ne-eqb, not-true, not-false}
@@ -15,32 +15,10 @@ use Rattle.rules.specs.Lists.{allTo, ceilDiv}
 use Rattle.rules.specs.Store.{Geometry, Store, sizeOf, wordOf, slotByte, byteAt, soundFile}
 use Rattle.tables.specs.Tables.{FileKnown}
 use Rattle.rules.proofs.GeometryLaws.{Good, good, block-pos, file-most, lengths}
-use Rattle.xdr.proofs.BoolLaws.{and-both, and-left, and-right, and-false, or-inl}
+use Rattle.xdr.proofs.BoolLaws.{and-left, and-right, and-false, or-inl}
 use Rattle.rules.proofs.SoundStore.{ceil-le, le-ceil}
-use Rattle.rules.proofs.SoundLaws.{allTo-at, allTo-all}
+use Rattle.rules.proofs.SoundLaws.{allTo-all}
 use Rattle.tables.proofs.GroupLaws.{allTo-ext}
-
--- ---- a loop that tests the numbers below n, one a turn: those below i passed
-
-pub record Passed (n : ℕ) (p : ℕ → Bool) (i : ℕ) : Type 0 where
-  pub within : i ≤ n
-  pub each : allTo i p ≡ true
-
-pub passed-none : {n : ℕ} {p : ℕ → Bool} → Passed n p 0
-passed-none = record { within = omega arith; each = refl }
-
-pub passed-more : {n i : ℕ} {p : ℕ → Bool} → Passed n p i → i < n → p i ≡ true → Passed n p (i + 1)
-passed-more {n} {i} {p} h l t = record { within = omega arith; each = rw (add-one i) (and-both (p i) (allTo i p) t (h .each)) }
-
-pub passed-all : {n i : ℕ} {p : ℕ → Bool} → Passed n p i → n ≤ i → true ≡ allTo n p
-passed-all {n} {i} {p} h l = let e : n ≡ i = omega arith in rw e (sym (h .each))
-
-pub failed : (n i : ℕ) (p : ℕ → Bool) → i < n → p i ≡ false → false ≡ allTo n p
-failed n i p l t = go (allTo n p) refl
-  where
-    go : (b : Bool) → allTo n p ≡ b → false ≡ allTo n p
-    go true e = absurd (true≢false (sym (allTo-at n p e i l) ∙ t))
-    go false e = sym e
 
 -- ---- tests that agree
 

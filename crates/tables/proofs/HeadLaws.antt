@@ -42,9 +42,6 @@ module _ (g : Geometry) (st : Store) (counts : List ℕ) (f : ℕ) (ready : File
   abbrev end : ℕ
   end = ceilDiv (sizeOf st f) (g .B)
 
-  abbrev at : ℕ
-  at = f * g .S
-
   isGood : Good g
   isGood = good g (ready .shaped .geometry)
 
@@ -69,26 +66,26 @@ module _ (g : Geometry) (st : Store) (counts : List ℕ) (f : ℕ) (ready : File
     pub size-small : sizeOf st f ≤ 4194304
     size-small = omega (arith, room-small)
 
-    pub end-inside : ceilDiv (sizeOf st f) (g .B) ≤ g .S
+    pub end-inside : end ≤ g .S
     end-inside = ceil-le block-some (sizeOf st f) (g .S) fits
 
     -- the slots below its end, as the code takes them
     abbrev pub headSlots : List ℕ
-    headSlots = take (f * g .S + ceilDiv (sizeOf st f) (g .B) - f * g .S) (drop (f * g .S) (st .words))
+    headSlots = take (f * g .S + end - f * g .S) (drop (f * g .S) (st .words))
 
-    head-is : f * g .S + ceilDiv (sizeOf st f) (g .B) - f * g .S ≡ ceilDiv (sizeOf st f) (g .B)
+    head-is : f * g .S + end - f * g .S ≡ end
     head-is = omega arith
 
-    head-long : length headSlots ≡ ceilDiv (sizeOf st f) (g .B)
+    head-long : length headSlots ≡ end
     unfolding head-is
     head-long =
         rw head-is
-        (length-take-le (ceilDiv (sizeOf st f) (g .B)) (drop (f * g .S) (st .words)) (rw (length-drop (f * g .S) (st .words)) (omega (arith, slots-inside, end-inside))))
+        (length-take-le end (drop (f * g .S) (st .words)) (rw (length-drop (f * g .S) (st .words)) (omega (arith, slots-inside, end-inside))))
 
-    head-at : (k : ℕ) → k < ceilDiv (sizeOf st f) (g .B) → getD headSlots k 0 ≡ wordOf g (st .words) f k
+    head-at : (k : ℕ) → k < end → getD headSlots k 0 ≡ wordOf g (st .words) f k
     unfolding head-is
     head-at k l =
-        rw head-is (getD-take (ceilDiv (sizeOf st f) (g .B)) (drop (f * g .S) (st .words)) k 0 l ∙ getD-drop (f * g .S) (st .words) k 0)
+        rw head-is (getD-take end (drop (f * g .S) (st .words)) k 0 l ∙ getD-drop (f * g .S) (st .words) k 0)
 
     -- no more of them are counted than of all slots
     head-few : (p : ℕ → Bool) → count p headSlots ≤ count p (slotsOf g (st .words) f)
@@ -97,8 +94,8 @@ module _ (g : Geometry) (st : Store) (counts : List ℕ) (f : ℕ) (ready : File
         rw head-is
         (omega (
           arith,
-          count-parts p (ceilDiv (sizeOf st f) (g .B)) (slotsOf g (st .words) f),
-          ap (count p) (take-take (ceilDiv (sizeOf st f) (g .B)) (g .S) (drop (f * g .S) (st .words)) end-inside),
+          count-parts p end (slotsOf g (st .words) f),
+          ap (count p) (take-take end (g .S) (drop (f * g .S) (st .words)) end-inside),
         ))
 
     -- what `scan_and_note` asks
@@ -111,11 +108,11 @@ module _ (g : Geometry) (st : Store) (counts : List ℕ) (f : ℕ) (ready : File
 
     -- the scan's test of them
     module _ {formed : Bool} {held reserved : ℕ} {after : List ℕ} (scan : ScannedNoted headSlots counts formed held reserved after) where
-      formed-is : formed ≡ allTo (ceilDiv (sizeOf st f) (g .B)) (λ k. leb (wordOf g (st .words) f k / 2) (g .N))
+      formed-is : formed ≡ allTo end (λ k. leb (wordOf g (st .words) f k / 2) (g .N))
       formed-is =
           scan .scanned .formed-is
           ∙ ap (λ (n : ℕ). allTo n (λ i. leb (getD headSlots i 0 / 2) (length counts))) head-long
-          ∙ allTo-ext (ceilDiv (sizeOf st f) (g .B)) _ _ (λ k l. rw (head-at k l, ready .long))
+          ∙ allTo-ext end _ _ (λ k l. rw (head-at k l, ready .long))
 
       pub words-fail : formed ≡ false → false ≡ filePasses g st f
       words-fail e = rw (sym formed-is ∙ e)
@@ -127,7 +124,7 @@ module _ (g : Geometry) (st : Store) (counts : List ℕ) (f : ℕ) (ready : File
           file = ready .file;
           pool = λ k l.
               leb-true (wordOf g (st .words) f k / 2) (g .N)
-              (allTo-at (ceilDiv (sizeOf st f) (g .B)) (λ k. leb (wordOf g (st .words) f k / 2) (g .N)) (sym formed-is ∙ ok) k l);
+              (allTo-at end (λ k. leb (wordOf g (st .words) f k / 2) (g .N)) (sym formed-is ∙ ok) k l);
         }
 
         module _ {t : Bool} (is : t ≡ soundFile g st f) where
@@ -135,16 +132,16 @@ module _ (g : Geometry) (st : Store) (counts : List ℕ) (f : ℕ) (ready : File
           sound-fails e = rw (sym is ∙ e, and-false)
 
           module _ (fine : t ≡ true) where
-            past-zero : (k : ℕ) → ceilDiv (sizeOf st f) (g .B) ≤ k → k < g .S → getD (drop (f * g .S) (st .words)) k 0 ≡ 0
+            past-zero : (k : ℕ) → end ≤ k → k < g .S → getD (drop (f * g .S) (st .words)) k 0 ≡ 0
             past-zero k h l =
                 getD-drop (f * g .S) (st .words) k 0
                 ∙ eqb-true (wordOf g (st .words) f k) 0
-                (rw (le-ltb k (ceilDiv (sizeOf st f) (g .B)) h) at
-                (allTo-at (g .S) (λ j. ltb j (ceilDiv (sizeOf st f) (g .B)) || eqb (wordOf g (st .words) f j) 0) (file-past g st f (sym is ∙ fine)) k l))
+                (rw (le-ltb k end h) at
+                (allTo-at (g .S) (λ j. ltb j end || eqb (wordOf g (st .words) f j) 0) (file-past g st f (sym is ∙ fine)) k l))
 
             head-counts : (p : ℕ → Bool) → p 0 ≡ false → count p (slotsOf g (st .words) f) ≡ count p headSlots
             unfolding head-is
-            head-counts p z = rw head-is (count-head p (ceilDiv (sizeOf st f) (g .B)) (g .S) (drop (f * g .S) (st .words)) end-inside z past-zero)
+            head-counts p z = rw head-is (count-head p end (g .S) (drop (f * g .S) (st .words)) end-inside z past-zero)
 
             pub file-passes : FileTested g st counts f true held reserved after
             file-passes = record {

@@ -1,7 +1,7 @@
 -- The call that serves a compound: its refusals one by one, and the reply of the operations reached.
 use Prim.Native.Nat.{ℕ, zero, suc, _+_, _≤_, _<_}
 use mathlib.Core.Path.{_≡_, refl, sym, ap, _∙_}
-use mathlib.Core.Bool.{Bool, true, false, not}
+use mathlib.Core.Bool.{Bool, true, false, not, cond}
 use mathlib.Core.List.{List, [], _∷_, _++_, append-nil}
 use mathlib.Core.Logic.{_≢_}
 use native.Mathlib.Omega.{arith}
@@ -134,13 +134,21 @@ module _ (g : Geometry) (v s buf : List ℕ) (st : Store) where
         unfolding refusal
         refused-3 e = by 3 (rw (geometry, lengths, eq-eqb (length v) 8 verifier, e)) (λ q. omega (arith, q))
 
+        -- a refusal that comes behind it
+        behind : (k : ℕ) → (sound g st ≡ true → Refuses k NOWHERE) → (r : Served) → r ≡ refusedWith (cond (sound g st) k 3) NOWHERE → Contract call st (left buf st r)
+        behind k then r h = go (sound g st) refl
+          where
+            go : (t : Bool) → sound g st ≡ t → Contract call st (left buf st r)
+            go true e = then e r (rw e at h)
+            go false e = refused-3 e r (rw e at h)
+
         module _ (is-sound : sound g st ≡ true) where
-          pub refused-4 : 65536 < length s → Refuses 4 NOWHERE
+          refused-4 : 65536 < length s → Refuses 4 NOWHERE
           unfolding refusal
           refused-4 l = by 4 (rw (geometry, lengths, eq-eqb (length v) 8 verifier, is-sound, lt-ltb 65536 (length s) l)) (λ q. omega (arith, q))
 
           module _ (short : length s ≤ 65536) where
-            pub refused-5 : length buf < 32768 → Refuses 5 NOWHERE
+            refused-5 : length buf < 32768 → Refuses 5 NOWHERE
             unfolding refusal
             refused-5 l =
                 by 5 (rw (geometry, lengths, eq-eqb (length v) 8 verifier, is-sound, le-ltb 65536 (length s) short, lt-ltb (length buf) 32768 l)) (λ q. omega (arith, q))
@@ -157,6 +165,12 @@ module _ (g : Geometry) (v s buf : List ℕ) (st : Store) where
               pub serves : {h : Header} {at : ℕ} {o : Outcome Store} → header s 0 ≡ got h at → ServedRight (config g v) st s h at buf o → Contract call st o
               unfolding answer answerNoPlace placeOf
               serves e d = rw (accepted, e, answerNoPlace, placeOf) d
+
+        pub refused-long : 65536 < length s → (r : Served) → r ≡ refusedWith (cond (sound g st) 4 3) NOWHERE → Contract call st (left buf st r)
+        refused-long l = behind 4 (λ e. refused-4 e l)
+
+        pub refused-short : length s ≤ 65536 → length buf < 32768 → (r : Served) → r ≡ refusedWith (cond (sound g st) 5 3) NOWHERE → Contract call st (left buf st r)
+        refused-short k l = behind 5 (λ e. refused-5 e k l)
 
 -- ---- the judgement of the store
 

@@ -151,6 +151,11 @@ pub record RanAll (s : List ℕ) (zs : List Event) (st : Store) (at out : ℕ) (
 
 -- ---- the whole reply
 
+-- a request and a reply buffer of lengths that are served
+pub record CallFits (s reply : List ℕ) : Type 0 where
+  pub request : length s ≤ 65536
+  pub room : 32768 ≤ length reply
+
 -- where a compound is served: a sound store with its table of holders, and arguments that no refusal before the header meets
 pub record Serves (g : Geometry) (st : Store) (counts reply : List ℕ) : Type 0 where
   pub shaped : Shaped g st

@@ -1,6 +1,6 @@
 // The call that serves a compound: the refusals in their order, then the operations, then the reply's head.
 ghost use mathlib.Core.Path.{_≡_};
-ghost use mathlib.Core.Bool.{not};
+ghost use mathlib.Core.Bool.{not, cond};
 ghost use lib.Dec.{ltb, eqb};
 ghost use mathlib.Core.List.{[], _∷_};
 ghost use Prim.Native.Nat.{_+_, _≤_};
@@ -9,6 +9,7 @@ ghost use Rattle.xdr.specs.Bytes.{partOf, Written};
 ghost use Rattle.xdr.specs.Encode.{u64, opaqueSize};
 ghost use Rattle.tables.specs.Lent.{geometryOf, after, before, tables};
 ghost use Rattle.rules.specs.Lists.{first};
+ghost use Rattle.rules.specs.Store.{sound};
 ghost use Rattle.rules.specs.Operation.{MINOR-VERS-MISMATCH, TOO-MANY-OPS};
 ghost use Rattle.rules.specs.Fault.{NOWHERE};
 ghost use Rattle.rules.specs.Calls.{replyHead, Contract};
@@ -16,7 +17,7 @@ ghost use Rattle.rules.specs.Run.{config};
 ghost use Rattle.tables.specs.Tables.{Shaped};
 ghost use Rattle.tables.specs.Survey.{TableFits, TableReady};
 ghost use Rattle.wire.specs.Decoded.{headerOf};
-ghost use Rattle.compound.specs.Runner.{configOf, Serves, ServedRight, refusedWith, call, outcome};
+ghost use Rattle.compound.specs.Runner.{configOf, CallFits, Serves, ServedRight, refusedWith, call, outcome};
 use crate::answer::Answer;
 use crate::run::Config;
 use crate::run::Progress;
@@ -142,7 +143,7 @@ fn serve_operations(
     }
 }
 
-// Refusals 3 to 6. `counts` has a zero for each block.
+// Refusals 3 and 6. `counts` has a zero for each block.
 fn serve_counted(
     c: Config,
     sizes: &mut [u64],
@@ -152,18 +153,12 @@ fn serve_counted(
     s: &[u8],
     reply: &mut [u8],
 ) -> Served
-    requires { ⌜ TableReady (geometryOf (c .geometry)) (tables sizes words mem) (now counts) ⌝ }
+    requires { ⌜ TableReady (geometryOf (c .geometry)) (tables sizes words mem) (now counts) × CallFits (now s) (now reply) ⌝ }
     ensures { λ r. ⌜ Contract (call (configOf c) s reply) (before sizes words mem)
         (outcome r reply (after sizes words mem)) ⌝ }
 {
     if !tables::judge_tables(c.geometry, sizes, words, mem, counts) {
         return Served::refused(Surveyed::UNSOUND);
-    }
-    if Served::MAX_REQUEST < s.len() {
-        return Served::refused(Served::LONG_REQUEST);
-    }
-    if reply.len() < Served::MIN_REPLY {
-        return Served::refused(Served::SHORT_REPLY);
     }
     match header(s) {
         HeaderRead::Found(h) => serve_operations(c, sizes, words, mem, counts, s, h, reply),
@@ -181,7 +176,7 @@ fn serve_in(
     s: &[u8],
     reply: &mut [u8],
 ) -> Served
-    requires { ⌜ TableFits (geometryOf (c .geometry)) (tables sizes words mem) (now counts) ⌝ }
+    requires { ⌜ TableFits (geometryOf (c .geometry)) (tables sizes words mem) (now counts) × CallFits (now s) (now reply) ⌝ }
     ensures { λ r. ⌜ Contract (call (configOf c) s reply) (before sizes words mem)
         (outcome r reply (after sizes words mem)) ⌝ }
 {
@@ -189,7 +184,7 @@ fn serve_in(
     serve_counted(c, sizes, words, mem, &mut counts[..n], s, reply)
 }
 
-// The same with a table of its own, which it only lends. A small table is cleared faster.
+// The same with a table of its own, which it only lends. A small table is cleared faster, and takes less of the stack.
 fn serve_small(
     c: Config,
     sizes: &mut [u64],
@@ -198,7 +193,7 @@ fn serve_small(
     s: &[u8],
     reply: &mut [u8],
 ) -> Served
-    requires { ⌜ Shaped (geometryOf (c .geometry)) (tables sizes words mem) × (c .geometry .blocks ≤ 256) ⌝ }
+    requires { ⌜ Shaped (geometryOf (c .geometry)) (tables sizes words mem) × (CallFits (now s) (now reply) × (c .geometry .blocks ≤ 256)) ⌝ }
     ensures { λ r. ⌜ Contract (call (configOf c) s reply) (before sizes words mem)
         (outcome r reply (after sizes words mem)) ⌝ }
 {
@@ -214,7 +209,7 @@ fn serve_middle(
     s: &[u8],
     reply: &mut [u8],
 ) -> Served
-    requires { ⌜ Shaped (geometryOf (c .geometry)) (tables sizes words mem) × (c .geometry .blocks ≤ 4096) ⌝ }
+    requires { ⌜ Shaped (geometryOf (c .geometry)) (tables sizes words mem) × (CallFits (now s) (now reply) × (c .geometry .blocks ≤ 4096)) ⌝ }
     ensures { λ r. ⌜ Contract (call (configOf c) s reply) (before sizes words mem)
         (outcome r reply (after sizes words mem)) ⌝ }
 {
@@ -230,7 +225,7 @@ fn serve_large(
     s: &[u8],
     reply: &mut [u8],
 ) -> Served
-    requires { ⌜ Shaped (geometryOf (c .geometry)) (tables sizes words mem) × (c .geometry .blocks ≤ 65536) ⌝ }
+    requires { ⌜ Shaped (geometryOf (c .geometry)) (tables sizes words mem) × (CallFits (now s) (now reply) × (c .geometry .blocks ≤ 65536)) ⌝ }
     ensures { λ r. ⌜ Contract (call (configOf c) s reply) (before sizes words mem)
         (outcome r reply (after sizes words mem)) ⌝ }
 {
@@ -238,26 +233,15 @@ fn serve_large(
     serve_in(c, sizes, words, mem, &mut counts, s, reply)
 }
 
-fn serve_shaped(
-    c: Config,
-    sizes: &mut [u64],
-    words: &mut [u32],
-    mem: &mut [u8],
-    s: &[u8],
-    reply: &mut [u8],
-) -> Served
-    requires { ⌜ Shaped (geometryOf (c .geometry)) (tables sizes words mem) ⌝ }
-    ensures { λ r. ⌜ Contract (call (configOf c) s reply) (before sizes words mem)
-        (outcome r reply (after sizes words mem)) ⌝ }
+// A refusal that comes behind that of a store which is not sound.
+fn refused_behind(number: u32, g: Geometry, sizes: &[u64], words: &[u32], mem: &[u8]) -> Served
+    requires { ⌜ Shaped (geometryOf g) (tables sizes words mem) ⌝ }
+    ensures { λ r. ⌜ r ≡ refusedWith (cond (sound (geometryOf g) (before sizes words mem)) number 3) NOWHERE ⌝ }
 {
-    let n = c.geometry.blocks;
-    if n <= Geometry::SMALL_POOL {
-        return serve_small(c, sizes, words, mem, s, reply);
+    if tables::survey(g, sizes, words, mem).number != 0 {
+        return Served::refused(Surveyed::UNSOUND);
     }
-    if n <= Geometry::MIDDLE_POOL {
-        return serve_middle(c, sizes, words, mem, s, reply);
-    }
-    serve_large(c, sizes, words, mem, s, reply)
+    Served::refused(number)
 }
 
 // The verifier as a number.
@@ -293,9 +277,21 @@ pub fn serve(
     if v.len() != Served::VERIFIER {
         return Served::refused(Surveyed::LENGTH);
     }
+    if Served::MAX_REQUEST < s.len() {
+        return refused_behind(Served::LONG_REQUEST, g, sizes, words, mem);
+    }
+    if reply.len() < Served::MIN_REPLY {
+        return refused_behind(Served::SHORT_REPLY, g, sizes, words, mem);
+    }
     let c = Config {
         geometry: g,
         verifier: verifier(v),
     };
-    serve_shaped(c, sizes, words, mem, s, reply)
+    if g.blocks <= Geometry::SMALL_POOL {
+        return serve_small(c, sizes, words, mem, s, reply);
+    }
+    if g.blocks <= Geometry::MIDDLE_POOL {
+        return serve_middle(c, sizes, words, mem, s, reply);
+    }
+    serve_large(c, sizes, words, mem, s, reply)
 }

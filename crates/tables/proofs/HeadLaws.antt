@@ -107,7 +107,7 @@ module _ (g : Geometry) (st : Store) (counts : List ℕ) (f : ℕ) (ready : File
     }
 
     -- the scan's test of them
-    module _ {formed : Bool} {held reserved : ℕ} {after : List ℕ} (scan : ScannedNoted headSlots counts formed held reserved after) where
+    module _ {formed : Bool} {held : ℕ} {reserved : Bool} {after : List ℕ} (scan : ScannedNoted headSlots counts formed held reserved after) where
       formed-is : formed ≡ allTo end (λ k. leb (wordOf g (st .words) f k / 2) (g .N))
       formed-is =
           scan .scanned .formed-is
@@ -152,12 +152,12 @@ module _ (g : Geometry) (st : Store) (counts : List ℕ) (f : ℕ) (ready : File
                   each = λ b h. scan .noted ok .each b h ∙ ap (λ (n : ℕ). getD counts b 0 + n) (sym (head-counts (holds b) (ne-eqb 0 (suc b) (λ (q : 0 ≡ suc b). omega arith))));
                 };
                 slots = record {
-                  held-is = scan .scanned .slots .held-is ∙ sym (head-counts (ltb 1) refl);
-                  reserved-is = scan .scanned .slots .reserved-is ∙ sym (head-counts isReserved refl);
+                  held-is = scan .scanned .slots ok .held-is ∙ sym (head-counts (ltb 1) refl);
+                  reserved-is = scan .scanned .slots ok .reserved-is ∙ ap (ltb 0) (sym (head-counts isReserved refl));
                 };
               };
             }
 
   -- a file that does not pass
-  pub file-fails : {after : List ℕ} → false ≡ filePasses g st f → FileTested g st counts f false 0 0 after
+  pub file-fails : {after : List ℕ} → false ≡ filePasses g st f → FileTested g st counts f false 0 false after
   file-fails e = record { pass-is = e; counted = λ q. absurd (true≢false (sym q)) }

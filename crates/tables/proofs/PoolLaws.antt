@@ -7,22 +7,22 @@ use native.Mathlib.Nat.{le-of-suc-le-suc}
 use native.Mathlib.Decide.{decLt}
 use native.Mathlib.Numerals.{add-one}
 use native.Mathlib.Omega.{arith}
-use borrow.Author.Tests.{not-true, lt-ltb, ltb-true, le-leb, lt-leb}
-use lib.ListN.{length, length-take, getD, take, drop, List·getD-eq-default}
+use borrow.Author.Tests.{eqb-true, eqb-false, lt-ltb, ltb-true, ltb-false, le-leb}
+use lib.ListN.{length, length-take, getD, take, drop}
 use lib.Seq.{drop-drop}
 use lib.Dec.{leb, ltb, eqb}
 use Rattle.rules.specs.Lists.{bit, count, sumTo, countTo, allTo}
 use Rattle.rules.specs.Store.{isHole, isReserved, isShared, holders, blockBound, used, owes, owed, need, fitsPool, lowestFree}
 use Rattle.tables.specs.Tables.{Tallied, TableTrue}
-use Rattle.tables.specs.Tally.{takesBy, owesBy, InTable, OwedFrom, firstZero, HeldFrom}
+use Rattle.tables.specs.Tally.{someReserved, takesBy, owesBy, InTable, OwedFrom, firstZero, HeldFrom}
 use Rattle.tables.specs.declared.groups.Sort.{Sort}
 use Rattle.tables.specs.Groups.{ofSort, groupAt, groupAll}
-use Rattle.rules.proofs.CountLaws.{sumTo-ext, count-drop, count-parts, count-none-at, count-most}
+use Rattle.rules.proofs.CountLaws.{sumTo-ext, count-drop, count-parts, count-most}
 use Rattle.rules.proofs.NeedLaws.{lowestFree-free, scan-ends, used-to}
 use Rattle.rules.proofs.BoundLaws.{count-right, owed-reserved, need-bound, owed-alone}
 use Rattle.rules.proofs.SoundLaws.{allTo-at}
 use Rattle.rules.proofs.PlanLaws.{InPool}
-use Rattle.tables.proofs.GroupLaws.{group-room, group-inside, group-each}
+use Rattle.tables.proofs.GroupLaws.{count-two, count-allTo, group-room, group-inside, group-each}
 use Rattle.tables.proofs.TallyLaws.{pool-part}
 
 -- ---- tests and counts
@@ -38,12 +38,6 @@ allTo-fails n i p h e = go (allTo n p) refl
 pub count-ext : (p q : ℕ → Bool) (l : List ℕ) → ((i : ℕ) → p (getD l i 0) ≡ q (getD l i 0)) → count p l ≡ count q l
 count-ext p q [] h = refl
 count-ext p q (x ∷ l) h = omega (arith, ap bit (h 0), count-ext p q l (λ i. h (suc i)))
-
--- those above 0 and those that are 0
-pub count-zeros : (l : List ℕ) → count (ltb 0) l + count (λ n. leb n 0) l ≡ length l
-count-zeros [] = refl
-count-zeros (zero ∷ l) = omega (arith, count-zeros l)
-count-zeros (suc x ∷ l) = rw (lt-ltb 0 (suc x) (omega arith), lt-leb (suc x) 0 (omega arith)) (omega (arith, count-zeros l))
 
 sumTo-front : (n : ℕ) (f : ℕ → ℕ) → sumTo (suc n) f ≡ f 0 + sumTo n (λ b. f (suc b))
 sumTo-front zero f = refl
@@ -148,12 +142,23 @@ module _ (ws cs : List ℕ) (i : ℕ) where
 pub none-owed : (cs l : List ℕ) → count isReserved l ≡ 0 → count (owesBy cs) l ≡ 0
 none-owed cs l e = omega (arith, e, count-right (takesBy cs) isReserved l)
 
-pub none-reserved : (l : List ℕ) → allTo (length l) (λ j. not (isReserved (getD l j 0))) ≡ true → count isReserved l ≡ 0
-none-reserved l e = count-none-at isReserved l (λ i. go i (decLt i (length l)))
+-- reserved or not
+reserved-sides : (l : List ℕ) → count isReserved l + count (λ w. not (isReserved w)) l ≡ length l
+reserved-sides = count-two isReserved (λ w. not (isReserved w)) (λ w. go (isReserved w))
   where
-    go : (i : ℕ) → Dec (i < length l) → isReserved (getD l i 0) ≡ false
-    go i (yes h) = not-true (isReserved (getD l i 0)) (allTo-at (length l) (λ j. not (isReserved (getD l j 0))) e i h)
-    go i (no d) = rw (List·getD-eq-default l 0 {n = i} (omega (arith, d)))
+    go : (t : Bool) → bit t + bit (not t) ≡ 1
+    go true = refl
+    go false = refl
+
+pub none-reserved : (l : List ℕ) → allTo (length l) (λ j. not (isReserved (getD l j 0))) ≡ true → count isReserved l ≡ 0
+none-reserved l e = omega (arith, reserved-sides l, eqb-true (count (λ w. not (isReserved w)) l) (length l) (count-allTo (λ w. not (isReserved w)) l ∙ e))
+
+pub one-reserved : (l : List ℕ) → allTo (length l) (λ j. not (isReserved (getD l j 0))) ≡ false → true ≡ someReserved l
+one-reserved l e =
+    sym (lt-ltb 0 (count isReserved l) (omega (arith, reserved-sides l, eqb-false (count (λ w. not (isReserved w)) l) (length l) (count-allTo (λ w. not (isReserved w)) l ∙ e))))
+
+pub unreserved : (l : List ℕ) → someReserved l ≡ false → count isReserved l ≡ 0
+unreserved l e = omega (arith, ltb-false 0 (count isReserved l) e)
 
 -- ---- read off the table
 

@@ -1,7 +1,7 @@
 -- The survey: what its tests and counts say of a store.
 use Prim.Native.Nat.{ℕ, zero, suc, _+_, _*_, _/_, _%_, _≤_, _<_}
 use mathlib.Core.Path.{_≡_, refl, sym, ap, subst, _∙_}
-use mathlib.Core.Bool.{Bool, true, false, not, _&&_, true≢false}
+use mathlib.Core.Bool.{Bool, true, false, not, _&&_, _||_, true≢false}
 use mathlib.Core.List.{List, _∷_}
 use native.Mathlib.Nat.{le-of-suc-le-suc, div-add-mod', mod-lt, mul-le-mul-right}
 use native.Mathlib.Decide.{decLt}
@@ -15,7 +15,7 @@ use Rattle.rules.specs.Store.{Geometry, Store, sizeOf, wordOf, isReserved, hold
 use Rattle.rules.specs.Attributes.{slotsOf}
 use Rattle.rules.specs.Calls.{SurveyPromise}
 use Rattle.tables.specs.Tables.{Shaped, TableTrue}
-use Rattle.tables.specs.Tally.{owesBy, OwedKnown, RoomKnown}
+use Rattle.tables.specs.Tally.{someReserved, owesBy, OwedKnown, RoomKnown}
 use Rattle.tables.specs.Survey.{TableReady, TableFits, tablesPass, filePasses, FileReady, FileTested, TableTested, TableJudged}
 use Rattle.rules.proofs.CountLaws.{count-most, count-end}
 use Rattle.rules.proofs.GeometryLaws.{good, block-pos, slots-all, lengths}
@@ -23,17 +23,13 @@ use Rattle.rules.proofs.SoundLaws.{allTo-at, allTo-all}
 use Rattle.rules.proofs.SoundStore.{ceil-le}
 use Rattle.rules.proofs.PlanLaws.{InPool}
 use Rattle.xdr.proofs.BoolLaws.{and-left, and-right, and-both}
-use Rattle.tables.proofs.TallyLaws.{count-from, formed-pool}
+use Rattle.tables.proofs.GroupLaws.{same-tests}
+use Rattle.tables.proofs.TallyLaws.{count-from, formed-pool, some-part, some-none}
 use Rattle.tables.proofs.PoolLaws.{allTo-fails, tallied-used, tallied-owed}
 use Rattle.tables.proofs.CallLaws.{survey-unsound, survey-sound}
 use Rattle.tables.proofs.FileTests.{file-fits, file-past}
 
 -- ---- the tests, file by file
-
-same-tests : (a b : Bool) → (a ≡ true → b ≡ true) → (b ≡ true → a ≡ true) → a ≡ b
-same-tests true b f g = sym (f refl)
-same-tests false true f g = g refl
-same-tests false false f g = refl
 
 module _ (g : Geometry) (st : Store) (h : Shaped g st) where
   abbrev formedAll : Bool
@@ -95,18 +91,18 @@ unfolding tablesPass
 passed-words g st e = and-left (allTo (g .F * g .S) (λ i. leb (getD (st .words) i 0 / 2) (g .N))) (allTo (g .F) (soundFile g st)) e
 
 -- the first f files have passed and are counted
-pub record Testing (g : Geometry) (st : Store) (counts : List ℕ) (f held reserved : ℕ) : Type 0 where
+pub record Testing (g : Geometry) (st : Store) (counts : List ℕ) (f held : ℕ) (reserved : Bool) : Type 0 where
   pub within : f ≤ g .F
   pub long : length counts ≡ g .N
   pub passed : allTo f (filePasses g st) ≡ true
   pub each : (b : ℕ) → b < length counts → getD counts b 0 + holders b (drop (f * g .S) (st .words)) ≡ holders b (st .words)
   pub held-rest : held + count (ltb 1) (drop (f * g .S) (st .words)) ≡ count (ltb 1) (st .words)
-  pub reserved-rest : reserved + count isReserved (drop (f * g .S) (st .words)) ≡ count isReserved (st .words)
+  pub reserved-rest : (reserved || someReserved (drop (f * g .S) (st .words))) ≡ someReserved (st .words)
 
 pub ready-long : (g : Geometry) (st : Store) (counts : List ℕ) → TableReady g st counts → length counts ≡ g .N
 ready-long g st counts r = ap length (r .zero) ∙ length-replicate (g .N) 0
 
-pub testing-none : (g : Geometry) (st : Store) (counts : List ℕ) → TableReady g st counts → Testing g st counts 0 0 0
+pub testing-none : (g : Geometry) (st : Store) (counts : List ℕ) → TableReady g st counts → Testing g st counts 0 0 false
 testing-none g st counts r =
     let e : 0 * g .S ≡ 0 = omega arith in
     let long : length counts ≡ g .N = ready-long g st counts r in
@@ -116,10 +112,10 @@ testing-none g st counts r =
       passed = refl;
       each = λ b h. rw e (omega (arith, ap (λ (l : List ℕ). getD l b 0) (r .zero) ∙ getD-replicate (g .N) b 0 0 (omega (arith, long))));
       held-rest = rw e (omega arith);
-      reserved-rest = rw e (omega arith);
+      reserved-rest = rw e;
     }
 
-module _ {g : Geometry} {st : Store} {counts : List ℕ} {f held reserved : ℕ} (h : Shaped g st) (t : Testing g st counts f held reserved) where
+module _ {g : Geometry} {st : Store} {counts : List ℕ} {f held : ℕ} {reserved : Bool} (h : Shaped g st) (t : Testing g st counts f held reserved) where
   most-words : length (st .words) ≤ 65536
   most-words = omega (arith, lengths g st (h .lengths) .slots, slots-all g (good g (h .geometry)))
 
@@ -130,9 +126,6 @@ module _ {g : Geometry} {st : Store} {counts : List ℕ} {f held reserved : ℕ}
   pub held-small : held ≤ 65536
   held-small = omega (arith, t .held-rest, count-most (ltb 1) (st .words), most-words)
 
-  pub reserved-small : reserved ≤ 65536
-  reserved-small = omega (arith, t .reserved-rest, count-most isReserved (st .words), most-words)
-
   pub file-ready : f < g .F → FileReady g st counts f
   file-ready l = record {
     shaped = h;
@@ -141,8 +134,8 @@ module _ {g : Geometry} {st : Store} {counts : List ℕ} {f held reserved : ℕ}
     few = λ b k. omega (arith, split (holds b), t .each b k, count-most (holds b) (st .words), most-words);
   }
 
-  module _ (l : f < g .F) {pass : Bool} {more too : ℕ} {after : List ℕ} (r : FileTested g st counts f pass more too after) where
-    pub testing-fails : pass ≡ false → {last : List ℕ} → TableTested g st false 0 0 last
+  module _ (l : f < g .F) {pass : Bool} {more : ℕ} {too : Bool} {after : List ℕ} (r : FileTested g st counts f pass more too after) where
+    pub testing-fails : pass ≡ false → {last : List ℕ} → TableTested g st false 0 false last
     testing-fails e = record {
       pass-is = sym (pass-files g st h ∙ allTo-fails (g .F) f (filePasses g st) l (sym (r .pass-is) ∙ e));
       room = λ q. absurd (true≢false (sym q));
@@ -152,10 +145,7 @@ module _ {g : Geometry} {st : Store} {counts : List ℕ} {f held reserved : ℕ}
       pub more-small : more ≤ 65536
       more-small = omega (arith, r .counted ok .slots .held-is, split (ltb 1), t .held-rest, count-most (ltb 1) (st .words), most-words)
 
-      pub too-small : too ≤ 65536
-      too-small = omega (arith, r .counted ok .slots .reserved-is, split isReserved, t .reserved-rest, count-most isReserved (st .words), most-words)
-
-      pub testing-more : Testing g st after (f + 1) (held + more) (reserved + too)
+      pub testing-more : Testing g st after (f + 1) (held + more) (reserved || too)
       testing-more =
           let n = r .counted ok .noted in
           record {
@@ -166,7 +156,9 @@ module _ {g : Geometry} {st : Store} {counts : List ℕ} {f held reserved : ℕ}
                 let m : b < length counts = omega (arith, n .long) in
                 omega (arith, n .each b m, split (holds b), t .each b m);
             held-rest = omega (arith, r .counted ok .slots .held-is, split (ltb 1), t .held-rest);
-            reserved-rest = omega (arith, r .counted ok .slots .reserved-is, split isReserved, t .reserved-rest);
+            reserved-rest =
+                rw (r .counted ok .slots .reserved-is)
+                (some-part reserved (count isReserved (slotsOf g (st .words) f)) (count isReserved (drop ((f + 1) * g .S) (st .words))) ∙ ap (λ (n : ℕ). reserved || ltb 0 n) (split isReserved) ∙ t .reserved-rest);
           }
 
   pub testing-all : g .F ≤ f → TableTested g st true held reserved counts
@@ -185,7 +177,7 @@ module _ {g : Geometry} {st : Store} {counts : List ℕ} {f held reserved : ℕ}
             some = rw (t .long) (good g (h .geometry) .blocks);
             most = rw (t .long) (good g (h .geometry) .blocks-most);
           };
-          slots = record { held-is = omega (arith, t .held-rest, none (ltb 1)); reserved-is = omega (arith, t .reserved-rest, none isReserved) };
+          slots = record { held-is = omega (arith, t .held-rest, none (ltb 1)); reserved-is = some-none reserved ∙ ap (λ (n : ℕ). reserved || ltb 0 n) (sym (none isReserved)) ∙ t .reserved-rest };
         };
       }
     where
@@ -199,7 +191,7 @@ sound-parts : (g : Geometry) (st : Store) → sound g st ≡ (tablesPass g st &&
 unfolding sound tablesPass
 sound-parts g st = refl
 
-module _ (g : Geometry) (st : Store) {after : List ℕ} {pass : Bool} {held reserved : ℕ} (h : Shaped g st) (long : length after ≡ g .N) (t : TableTested g st pass held reserved after) where
+module _ (g : Geometry) (st : Store) {after : List ℕ} {pass : Bool} {held : ℕ} {reserved : Bool} (h : Shaped g st) (long : length after ≡ g .N) (t : TableTested g st pass held reserved after) where
   module _ (fails : not pass ≡ true) where
     not-sound : sound g st ≡ false
     not-sound = sound-parts g st ∙ rw (sym (t .pass-is) ∙ not-true pass fails)

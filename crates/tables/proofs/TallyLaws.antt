@@ -1,10 +1,10 @@
 -- Laws on the table of holders: how slots are noted in it, one by one, in groups and file by file.
-use Prim.Native.Nat.{ℕ, zero, suc, pred, _+_, _-_, _*_, _/_, _≤_, _<_}
+use Prim.Native.Nat.{ℕ, zero, suc, pred, _+_, _-_, _*_, _/_, _%_, _≤_, _<_}
 use mathlib.Core.Path.{_≡_, refl, sym, ap, _∙_}
-use mathlib.Core.Bool.{Bool, true, false, cond}
+use mathlib.Core.Bool.{Bool, true, false, cond, _||_}
 use mathlib.Core.List.{List}
 use mathlib.Core.Logic.{_≢_}
-use native.Mathlib.Nat.{add-zero}
+use native.Mathlib.Nat.{add-zero, zero-add}
 use native.Mathlib.Decide.{decLt}
 use native.Mathlib.Numerals.{add-one, sub-one}
 use native.Mathlib.Omega.{arith}
@@ -14,14 +14,14 @@ use lib.Seq.{getD-set-same, getD-set-other, set-getD, getD-take, getD-drop, drop
 use lib.Dec.{leb, ltb, eqb, eqb·suc-zero}
 use Rattle.rules.specs.Lists.{bit, count, allTo}
 use Rattle.rules.specs.Store.{isHole, holds, holders}
-use Rattle.tables.specs.Tally.{noted, Scanned, Scannable, Known, HoldAll, NotesFit, NotesFitAs, NotesFitFrom, NotedAll, NotedFrom}
+use Rattle.tables.specs.Tally.{noted, holdsOne, Scanned, Scannable, Known, HoldAll, NotesFit, NotesFitAs, NotesFitFrom, NotedAll, NotedFrom}
 use Rattle.tables.specs.declared.tally.Slots.{Slots}
 use Rattle.tables.specs.Groups.{groupAt}
-use Rattle.rules.proofs.CountLaws.{count-drop, count-parts, count-end, count-all-at}
+use Rattle.rules.proofs.CountLaws.{count-drop, count-parts, count-end, count-most, count-all-at}
 use Rattle.rules.proofs.BoundLaws.{holders-held}
 use Rattle.rules.proofs.SoundLaws.{allTo-at}
 use Rattle.rules.proofs.PlanLaws.{InPool}
-use Rattle.tables.proofs.GroupLaws.{allTo-ext, group-room}
+use Rattle.tables.proofs.GroupLaws.{count-sum, count-two, bit-sides, count-allTo, group-room}
 
 -- ---- one word noted
 
@@ -84,16 +84,54 @@ noted-turn ws cs i b h k = rw (add-one i) (omega (arith, noted-at (getD ws i 0 /
 
 -- ---- words tested
 
-formed-most : (w n : ℕ) → leb w (2 * n + 1) ≡ leb (w / 2) n
-formed-most w n = go (decLt (2 * n + 1) w)
-  where
-    go : Dec (2 * n + 1 < w) → leb w (2 * n + 1) ≡ leb (w / 2) n
-    go (yes h) = lt-leb w (2 * n + 1) h ∙ sym (lt-leb (w / 2) n (omega arith))
-    go (no d) = le-leb w (2 * n + 1) (omega (arith, d)) ∙ sym (le-leb (w / 2) n (omega (arith, d)))
+-- two less than a word, modulo 2^32: the words of the blocks come first, those of holes last
+pub less-held : (n w : ℕ) → n ≤ 65536 → w ≤ 4294967295 → (w + 4294967294) % 4294967296 < 2 * n → bit (holdsOne n w) ≡ 1
+less-held n w few word h = rw (lt-ltb 1 w (omega arith), le-leb (w / 2) n (omega arith))
 
--- words that name one of n blocks, or none, are at most 2 * n + 1
-pub words-most : (ws : List ℕ) (n : ℕ) → allTo (length ws) (λ i. leb (getD ws i 0) (2 * n + 1)) ≡ allTo (length ws) (λ i. leb (getD ws i 0 / 2) n)
-words-most ws n = allTo-ext (length ws) _ _ (λ i h. formed-most (getD ws i 0) n)
+pub less-other : (n w : ℕ) → n ≤ 65536 → w ≤ 4294967295 → 2 * n ≤ (w + 4294967294) % 4294967296 → bit (holdsOne n w) ≡ 0
+less-other n w few word h = go (decLt 1 w)
+  where
+    go : Dec (1 < w) → bit (holdsOne n w) ≡ 0
+    go (yes l) = rw (lt-ltb 1 w l, lt-leb (w / 2) n (omega arith))
+    go (no d) = rw (le-ltb 1 w (omega (arith, d)))
+
+-- a word names one of n blocks or none: it holds one of them or is a hole's
+one-or-hole : (n w : ℕ) → bit (holdsOne n w) + bit (leb w 1) ≡ bit (leb (w / 2) n)
+one-or-hole n w = go (decLt 1 w)
+  where
+    go : Dec (1 < w) → bit (holdsOne n w) + bit (leb w 1) ≡ bit (leb (w / 2) n)
+    go (yes l) = rw (lt-ltb 1 w l, lt-leb w 1 l) (omega arith)
+    go (no d) =
+        let l : w ≤ 1 = omega (arith, d) in
+        rw (le-ltb 1 w l, le-leb w 1 l, le-leb (w / 2) n (omega arith))
+
+module _ (n : ℕ) (ws : List ℕ) where
+  named : count (holdsOne n) ws + count (λ w. leb w 1) ws ≡ count (λ w. leb (w / 2) n) ws
+  named = count-sum (holdsOne n) (λ w. leb w 1) (λ w. leb (w / 2) n) (one-or-hole n) ws
+
+  -- what `rest_holes` asks, and what it tells
+  pub scan-rest : count (holdsOne n) ws + count (λ w. leb w 1) ws ≤ length ws
+  scan-rest = omega (arith, named, count-most (λ w. leb (w / 2) n) ws)
+
+  pub scan-formed : eqb (count (holdsOne n) ws + count (λ w. leb w 1) ws) (length ws) ≡ allTo (length ws) (λ i. leb (getD ws i 0 / 2) n)
+  scan-formed = rw named (count-allTo (λ w. leb (w / 2) n) ws)
+
+  pub scan-held : eqb (count (holdsOne n) ws + count (λ w. leb w 1) ws) (length ws) ≡ true → count (holdsOne n) ws ≡ count (ltb 1) ws
+  scan-held e = omega (arith, eqb-true (count (holdsOne n) ws + count (λ w. leb w 1) ws) (length ws) e, count-two (ltb 1) (λ w. leb w 1) (bit-sides 1) ws)
+
+-- whether one is reserved, part by part
+pub some-part : (r : Bool) (a b : ℕ) → ((r || ltb 0 a) || ltb 0 b) ≡ (r || ltb 0 (a + b))
+some-part true a b = refl
+some-part false zero b = rw (zero-add b)
+some-part false (suc a) b = rw (lt-ltb 0 (suc a) (omega arith), lt-ltb 0 (suc a + b) (omega arith))
+
+pub some-none : (r : Bool) → r ≡ (r || ltb 0 0)
+some-none true = refl
+some-none false = refl
+
+pub some-bit : (t : Bool) → ltb 0 (bit t) ≡ t
+some-bit true = refl
+some-bit false = refl
 
 -- words that pass their test name blocks of the pool
 pub formed-pool : (n m : ℕ) (ws : List ℕ) → length ws ≡ n → allTo n (λ i. leb (getD ws i 0 / 2) m) ≡ true → InPool m ws
@@ -104,7 +142,7 @@ formed-pool n m ws l e p = go (decLt p n)
     go (no d) = rw (List·getD-eq-default ws 0 {n = p} (omega (arith, d, l))) (omega arith)
 
 -- what `note_counted` asks of words that passed
-pub scan-fits : {ws cs : List ℕ} {held reserved : ℕ} {formed : Bool} → Scannable ws cs → Scanned ws (length cs) formed held reserved → formed ≡ true → NotesFit ws cs
+pub scan-fits : {ws cs : List ℕ} {held : ℕ} {formed reserved : Bool} → Scannable ws cs → Scanned ws (length cs) formed held reserved → formed ≡ true → NotesFit ws cs
 scan-fits {ws} {cs} ready scan ok = record {
   pool = formed-pool (length ws) (length cs) ws refl (sym (scan .formed-is) ∙ ok);
   few = ready .few;

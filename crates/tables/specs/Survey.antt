@@ -31,7 +31,7 @@ abbrev pub filePasses : Geometry → Store → ℕ → Bool
 filePasses g st f = allTo (ceilDiv (sizeOf st f) (g .B)) (λ k. leb (wordOf g (st .words) f k / 2) (g .N)) && soundFile g st f
 
 -- slots noted, and counted
-pub record SlotsCounted (ws before : List ℕ) (held reserved : ℕ) (after : List ℕ) : Type 0 where
+pub record SlotsCounted (ws before : List ℕ) (held : ℕ) (reserved : Bool) (after : List ℕ) : Type 0 where
   pub noted : NotedAll ws before after
   pub slots : SlotCounts ws held reserved
 
@@ -43,12 +43,12 @@ pub record FileReady (g : Geometry) (st : Store) (counts : List ℕ) (f : ℕ) :
   pub few : (b : ℕ) → b < length counts → getD counts b 0 + holders b (slotsOf g (st .words) f) ≤ 65536
 
 -- the test of a file, and its slots counted where it passes
-pub record FileTested (g : Geometry) (st : Store) (before : List ℕ) (f : ℕ) (pass : Bool) (held reserved : ℕ) (after : List ℕ) : Type 0 where
+pub record FileTested (g : Geometry) (st : Store) (before : List ℕ) (f : ℕ) (pass : Bool) (held : ℕ) (reserved : Bool) (after : List ℕ) : Type 0 where
   pub pass-is : pass ≡ filePasses g st f
   pub counted : pass ≡ true → SlotsCounted (slotsOf g (st .words) f) before held reserved after
 
 -- that of all files, which leaves the table of holders where they pass
-pub record TableTested (g : Geometry) (st : Store) (pass : Bool) (held reserved : ℕ) (after : List ℕ) : Type 0 where
+pub record TableTested (g : Geometry) (st : Store) (pass : Bool) (held : ℕ) (reserved : Bool) (after : List ℕ) : Type 0 where
   pub pass-is : pass ≡ tablesPass g st
   pub room : pass ≡ true → RoomKnown held reserved (st .words) after
 

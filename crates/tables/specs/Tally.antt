@@ -11,15 +11,23 @@ use Rattle.rules.proofs.PlanLaws.{InPool}
 use Rattle.tables.specs.Tables.{TableTrue}
 use Rattle.tables.specs.declared.tally.Slots.{Slots}
 
--- so many slots hold a block, as their word is above 1, and so many are reserved
-pub record SlotCounts (ws : List ℕ) (held reserved : ℕ) : Type 0 where
-  pub held-is : held ≡ count (ltb 1) ws
-  pub reserved-is : reserved ≡ count isReserved ws
+-- a slot with word w holds one of n blocks
+abbrev pub holdsOne : ℕ → ℕ → Bool
+holdsOne n w = ltb 1 w && leb (w / 2) n
 
--- what one pass tells of words, for a pool of n blocks: whether each names one of them or none, and those counts
-pub record Scanned (ws : List ℕ) (n : ℕ) (formed : Bool) (held reserved : ℕ) : Type 0 where
+-- a slot is reserved
+abbrev pub someReserved : List ℕ → Bool
+someReserved ws = ltb 0 (count isReserved ws)
+
+-- so many slots hold a block, as their word is above 1, and one is reserved or none is
+pub record SlotCounts (ws : List ℕ) (held : ℕ) (reserved : Bool) : Type 0 where
+  pub held-is : held ≡ count (ltb 1) ws
+  pub reserved-is : reserved ≡ someReserved ws
+
+-- what one pass tells of words, for a pool of n blocks: whether each names one of them or none, and that of words which do
+pub record Scanned (ws : List ℕ) (n : ℕ) (formed : Bool) (held : ℕ) (reserved : Bool) : Type 0 where
   pub formed-is : formed ≡ allTo (length ws) (λ i. leb (getD ws i 0 / 2) n)
-  pub slots : SlotCounts ws held reserved
+  pub slots : formed ≡ true → SlotCounts ws held reserved
 
 -- the counts with one more for block k - 1; a hole's k is 0
 unfoldable pub noted : ℕ → List ℕ → List ℕ
@@ -97,7 +105,7 @@ pub record Scannable (ws counts : List ℕ) : Type 0 where
   pub few : (b : ℕ) → b < length counts → getD counts b 0 + holders b ws ≤ 65536
 
 -- what the scan tells, and one holder more for each of words that pass it
-pub record ScannedNoted (ws before : List ℕ) (formed : Bool) (held reserved : ℕ) (after : List ℕ) : Type 0 where
+pub record ScannedNoted (ws before : List ℕ) (formed : Bool) (held : ℕ) (reserved : Bool) (after : List ℕ) : Type 0 where
   pub scanned : Scanned ws (length before) formed held reserved
   pub noted : formed ≡ true → NotedAll ws before after
 
@@ -117,13 +125,13 @@ takesBy counts w = isHole w || ltb 1 (getD counts (pred (w / 2)) 0)
 abbrev pub owesBy : List ℕ → ℕ → Bool
 owesBy counts w = takesBy counts w && isReserved w
 
--- slots of which so many hold a block and so many are reserved, in a true table
-pub record RoomKnown (held reserved : ℕ) (ws counts : List ℕ) : Type 0 where
+-- slots of which so many hold a block and one is reserved or none is, in a true table
+pub record RoomKnown (held : ℕ) (reserved : Bool) (ws counts : List ℕ) : Type 0 where
   pub counted : TableTrue ws counts
   pub slots : SlotCounts ws held reserved
 
 -- and so many blocks are used
-pub record OwedKnown (held used reserved : ℕ) (ws counts : List ℕ) : Type 0 where
+pub record OwedKnown (held used : ℕ) (reserved : Bool) (ws counts : List ℕ) : Type 0 where
   pub room : RoomKnown held reserved ws counts
   pub used-is : used ≡ count (ltb 0) counts
 

@@ -34,7 +34,7 @@ pub fn group_at(i: usize, n: usize) -> bool
     Group::SIZE <= n - i
 }
 
-fn of_sort(sort: Sort, n: u32) -> bool
+pub fn of_sort(sort: Sort, n: u32) -> bool
     ensures { λ r. ⌜ r ≡ ofSort sort n ⌝ }
 {
     match sort {
@@ -47,7 +47,7 @@ fn of_sort(sort: Sort, n: u32) -> bool
 }
 
 // Whether n is of that sort and those before are.
-pub fn of_sort_too(sort: Sort, before: bool, n: u32) -> bool
+fn of_sort_too(sort: Sort, before: bool, n: u32) -> bool
     ensures { λ r. ⌜ r ≡ (ofSort sort n && before) ⌝ }
 {
     of_sort(sort, n) & before

@@ -102,13 +102,13 @@ pub fn owed_slots(words: &[u32], counts: &[u32]) -> usize
     n
 }
 
-// The same where so many slots hold a block, so many blocks are used and so many slots are reserved. Without a reserved slot nothing
-// is owed. Where each slot that holds a block holds it alone, reserved holes are.
-pub fn owed_of(held: usize, used: usize, reserved: usize, words: &[u32], counts: &[u32]) -> usize
+// The same where so many slots hold a block, so many blocks are used, and a slot is reserved or none is. Without a reserved slot
+// nothing is owed. Where each slot that holds a block holds it alone, reserved holes are.
+pub fn owed_of(held: usize, used: usize, reserved: bool, words: &[u32], counts: &[u32]) -> usize
     requires { ⌜ OwedKnown held used reserved (now words) (now counts) ⌝ }
     ensures { λ r. ⌜ r ≡ count (owesBy (now (counts .entry))) (now (words .entry)) ⌝ }
 {
-    if reserved == 0 {
+    if !reserved {
         return 0;
     }
     if held == used {
@@ -117,16 +117,17 @@ pub fn owed_of(held: usize, used: usize, reserved: usize, words: &[u32], counts:
     owed_slots(words, counts)
 }
 
-// Whether used and owed blocks fit the pool, where so many slots hold a block and so many are reserved. They are counted only where
-// they may not fit: nothing is owed without a reserved slot, and they are never more than those slots together.
-pub fn fits_of(held: usize, reserved: usize, words: &[u32], counts: &[u32]) -> bool
+// Whether used and owed blocks fit the pool, where so many slots hold a block, and one is reserved or none is. They are counted only
+// where they may not fit: nothing is owed without a reserved slot, and they are never more than the slots that hold a block and those
+// that are reserved.
+pub fn fits_of(held: usize, reserved: bool, words: &[u32], counts: &[u32]) -> bool
     requires { ⌜ RoomKnown held reserved (now words) (now counts) ⌝ }
     ensures { λ r. ⌜ r ≡ fitsPool (length (now (counts .entry))) (now (words .entry)) ⌝ }
 {
-    if reserved == 0 {
+    if !reserved {
         return true;
     }
-    if held + reserved <= counts.len() {
+    if held + count_of_sort(Sort::Reserved, words) <= counts.len() {
         return true;
     }
     let used = used_blocks(counts);
@@ -141,12 +142,7 @@ pub fn fits_pool(words: &[u32], counts: &[u32]) -> bool
     if all_of_sort(Sort::Unreserved, words) {
         return true;
     }
-    fits_of(
-        count_of_sort(Sort::Above(1), words),
-        count_of_sort(Sort::Reserved, words),
-        words,
-        counts,
-    )
+    fits_of(count_of_sort(Sort::Above(1), words), true, words, counts)
 }
 
 // How many blocks from b on are seen to be held: the group that starts there, block b, or none.

@@ -41,21 +41,22 @@ impl Surveyed {
     }
 }
 
-// Whether slots and files pass the tests of a sound store but for the room, and how many slots hold a block and are reserved.
+// Whether slots and files pass the tests of a sound store but for the room; and if so, how many slots hold a block, and whether one
+// is reserved.
 struct Tested {
     pass: bool,
     held: usize,
-    reserved: usize,
+    reserved: bool,
 }
 
 impl Tested {
     fn failed() -> Tested
-        ensures { λ r. ⌜ r ≡ record { pass = false; held = 0; reserved = 0 } ⌝ }
+        ensures { λ r. ⌜ r ≡ record { pass = false; held = 0; reserved = false } ⌝ }
     {
         Tested {
             pass: false,
             held: 0,
-            reserved: 0,
+            reserved: false,
         }
     }
 }
@@ -100,7 +101,7 @@ fn test_tables(g: Geometry, sizes: &[u64], words: &[u32], mem: &[u8], counts: &m
         (r .pass) (r .held) (r .reserved) (now (counts .exit)) ⌝ }
 {
     let mut held: usize = 0;
-    let mut reserved: usize = 0;
+    let mut reserved = false;
     let mut f = 0;
     while f < g.files {
         let t = test_file(g, sizes, words, mem, counts, f);
@@ -108,7 +109,7 @@ fn test_tables(g: Geometry, sizes: &[u64], words: &[u32], mem: &[u8], counts: &m
             return Tested::failed();
         }
         held += t.held;
-        reserved += t.reserved;
+        reserved = reserved | t.reserved;
         f += 1;
     }
     Tested {

@@ -1,46 +1,69 @@
 // The slot words scanned, and the table of holders filled: one more for the block of each slot.
 ghost use mathlib.Core.Path.{_≡_};
 ghost use mathlib.Core.Bool.{cond};
-ghost use Prim.Native.Nat.{pred, _/_, _<_, _≤_};
+ghost use Prim.Native.Nat.{pred, _+_, _/_, _<_, _≤_};
 ghost use lib.ListN.{length};
-ghost use lib.Dec.{ltb};
-ghost use Rattle.rules.specs.Lists.{count};
+ghost use lib.Dec.{leb, ltb, eqb};
+ghost use Rattle.rules.specs.Lists.{bit, count};
 ghost use Rattle.rules.specs.Store.{isHole};
-ghost use Rattle.tables.specs.Tally.{Scanned, Scannable, ScannedNoted, noted, Notable, NotableAs, NotesFit, NotesFitAs, NotesFitFrom, GroupsFit, NotedAll, NotedFrom};
+ghost use Rattle.tables.specs.Tally.{holdsOne, Scanned, Scannable, ScannedNoted, noted, Notable, NotableAs, NotesFit, NotesFitAs, NotesFitFrom, GroupsFit, NotedAll, NotedFrom};
 use crate::groups::Group;
 use crate::groups::Sort;
 use crate::groups::bit_of_sort;
 use crate::groups::count_of_sort;
 use crate::groups::group_at;
-use crate::groups::of_sort_too;
+use crate::groups::of_sort;
 
-// What one pass tells of slot words: whether each names one of the blocks or none, how many hold a block, and how many are reserved.
+// What one pass tells of slot words: whether each names one of the blocks or none; and if so, how many hold a block, and whether one
+// is reserved.
 pub struct Scan {
     pub formed: bool,
     pub held: usize,
-    pub reserved: usize,
+    pub reserved: bool,
+}
+
+// 1 where a slot with word w holds one of the blocks, else 0. Two less, the word of a hole is the greatest: one comparison tells.
+fn holds_one(w: u32, blocks: u32) -> u32
+    requires { ⌜ blocks ≤ 65536 ⌝ }
+    ensures { λ r. ⌜ r ≡ bit (holdsOne blocks w) ⌝ }
+{
+    let less = ((w as u64 + 4294967294) % 4294967296) as u32;
+    if less < 2 * blocks {
+        return 1;
+    }
+    0
+}
+
+// Whether the words of which so many hold a block are else holes.
+fn rest_holes(held: usize, words: &[u32]) -> bool
+    requires { ⌜ (length (now words) ≤ 65536) × (held + count (λ w. leb w 1) (now words) ≤ length (now words)) ⌝ }
+    ensures { λ r. ⌜ r ≡ eqb (held + count (λ w. leb w 1) (now (words .entry))) (length (now (words .entry))) ⌝ }
+{
+    if held == words.len() {
+        return true;
+    }
+    held + count_of_sort(Sort::AtMost(1), words) == words.len()
 }
 
 pub fn scan_words(words: &[u32], blocks: usize) -> Scan
     requires { ⌜ (blocks ≤ 65536) × (length (now words) ≤ 65536) ⌝ }
     ensures { λ r. ⌜ Scanned (now (words .entry)) blocks (r .formed) (r .held) (r .reserved) ⌝ }
 {
-    let most = 2 * blocks as u32 + 1;
-    let mut formed = true;
-    let mut held: u32 = 0;
-    let mut reserved: u32 = 0;
+    let n = blocks as u32;
+    let mut sum: u32 = 0;
+    let mut reserved = false;
     let mut i = 0;
     while i < words.len() {
         let w = words[i];
-        formed = of_sort_too(Sort::AtMost(most), formed, w);
-        held += bit_of_sort(Sort::Above(1), w);
-        reserved += bit_of_sort(Sort::Reserved, w);
+        sum += holds_one(w, n);
+        reserved = reserved | of_sort(Sort::Reserved, w);
         i += 1;
     }
+    let held = sum as usize;
     Scan {
-        formed,
-        held: held as usize,
-        reserved: reserved as usize,
+        formed: rest_holes(held, words),
+        held,
+        reserved,
     }
 }
 

@@ -1,13 +1,14 @@
 use mathlib.Core.Path.{sym, _∙_}
 use borrow.Author.Needs.{needs}
-use Rattle.tables.proofs.PoolLaws.{none-owed, looked-up, alone-owed}
+use borrow.Author.Tests.{not-true}
+use Rattle.tables.proofs.PoolLaws.{unreserved, none-owed, looked-up, alone-owed}
 use Rattle.tables.proofs.pool.owed_of.Statement.{statement}
 use Rattle.tables.proofs.pool.owed_of.Tie as tie
 
 returns : tie.Need-returns
 returns c =
     let s = c .before .before .before in
-    sym (none-owed (s .args .counts .now) (s .args .words .now) (sym (s .pre .room .slots .reserved-is) ∙ c .if1 .taken))
+    sym (none-owed (s .args .counts .now) (s .args .words .now) (unreserved (s .args .words .now) (sym (s .pre .room .slots .reserved-is) ∙ not-true _ (c .if1 .taken))))
 
 count-of-sort-requires : tie.Need-count-of-sort-requires
 count-of-sort-requires c κs = c .before .before .before .before .pre .room .counted .few

@@ -3,7 +3,7 @@ use mathlib.Core.Path.{sym, _∙_}
 use native.Mathlib.Omega.{arith}
 use borrow.Author.Tests.{not-true, not-false}
 use Rattle.tables.specs.Lent.{geometryOf}
-use Rattle.tables.proofs.SurveyLaws.{Testing, ready-long, testing-none, file-ready, testing-fails, held-small, reserved-small, more-small, too-small, testing-more, testing-all}
+use Rattle.tables.proofs.SurveyLaws.{Testing, ready-long, testing-none, file-ready, testing-fails, held-small, more-small, testing-more, testing-all}
 use borrow.Author.Needs.{needs}
 use Rattle.tables.proofs.sound.test_tables.Statement.{statement}
 use Rattle.tables.proofs.sound.test_tables.Tie as tie
@@ -41,15 +41,6 @@ add-held c =
     let h = l .before .before .before .before .before .pre .shaped in
     omega (arith, held-small h (l .loop .inv), more-small h (l .loop .inv) (i .if1 .taken) (t .test-file .ensures) (not-false _ (e .if2 .left)))
 
-add-reserved : tie.Need-add-reserved Inv-loop μ-loop
-add-reserved c =
-    let e = c .before .before in
-    let t = e .before .before .before .before in
-    let i = t .before .before in
-    let l = i .before .before in
-    let h = l .before .before .before .before .before .pre .shaped in
-    omega (arith, reserved-small h (l .loop .inv), too-small h (l .loop .inv) (i .if1 .taken) (t .test-file .ensures) (not-false _ (e .if2 .left)))
-
 loop-again : tie.Need-loop-again Inv-loop μ-loop
 loop-again c =
     let e = c .before .before in
@@ -77,5 +68,5 @@ pub test-tables-spec : {M : Type 1} → statement M
 test-tables-spec =
     tie.close
     (tie.spec
-    Inv-loop μ-loop loop-holds test-file-requires (λ c κs. search needs) same-length returns add-held add-reserved (λ c. omega arith)
+    Inv-loop μ-loop loop-holds test-file-requires (λ c κs. search needs) same-length returns add-held (λ c. omega arith)
     (λ c. omega arith) loop-again same-length-2 returns-2)

@@ -19,7 +19,7 @@ note-counted-requires c κs =
     let i = c .before in
     let k = i .before .before in
     let s = k .before .before .before in
-    (scan-fits (s .pre) (k .scan-words .ensures) (not-false _ (i .if1 .left)), k .scan-words .ensures .slots .held-is)
+    (scan-fits (s .pre) (k .scan-words .ensures) (not-false _ (i .if1 .left)), k .scan-words .ensures .slots (not-false _ (i .if1 .left)) .held-is)
 
 returns-2 : tie.Need-returns-2
 returns-2 c =

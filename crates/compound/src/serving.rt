@@ -255,7 +255,8 @@ fn verifier(v: &[u8]) -> u64
     n
 }
 
-// Serves the compound of request s on the lent store. v is the verifier.
+// Serves the compound of request s on the lent store. v is the verifier. What needs no table of holders is refused here; each table is
+// in a function of its own, so that a call takes the stack of one.
 pub fn serve(
     g: Geometry,
     sizes: &mut [u64],

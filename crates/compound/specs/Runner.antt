@@ -156,6 +156,12 @@ pub record CallFits (s reply : List ℕ) : Type 0 where
   pub request : length s ≤ 65536
   pub room : 32768 ≤ length reply
 
+-- such a call on tables that have their lengths, of a pool of at most n blocks
+pub record Admitted (g : Geometry) (st : Store) (s reply : List ℕ) (n : ℕ) : Type 0 where
+  pub shaped : Shaped g st
+  pub call : CallFits s reply
+  pub blocks : g .N ≤ n
+
 -- where a compound is served: a sound store with its table of holders, and arguments that no refusal before the header meets
 pub record Serves (g : Geometry) (st : Store) (counts reply : List ℕ) : Type 0 where
   pub shaped : Shaped g st

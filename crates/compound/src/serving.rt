@@ -17,7 +17,7 @@ ghost use Rattle.rules.specs.Run.{config};
 ghost use Rattle.tables.specs.Tables.{Shaped};
 ghost use Rattle.tables.specs.Survey.{TableFits, TableReady};
 ghost use Rattle.wire.specs.Decoded.{headerOf};
-ghost use Rattle.compound.specs.Runner.{configOf, CallFits, Serves, ServedRight, refusedWith, call, outcome};
+ghost use Rattle.compound.specs.Runner.{configOf, CallFits, Admitted, Serves, ServedRight, refusedWith, call, outcome};
 use crate::answer::Answer;
 use crate::run::Config;
 use crate::run::Progress;
@@ -193,7 +193,7 @@ fn serve_small(
     s: &[u8],
     reply: &mut [u8],
 ) -> Served
-    requires { ⌜ Shaped (geometryOf (c .geometry)) (tables sizes words mem) × (CallFits (now s) (now reply) × (c .geometry .blocks ≤ 256)) ⌝ }
+    requires { ⌜ Admitted (geometryOf (c .geometry)) (tables sizes words mem) (now s) (now reply) 256 ⌝ }
     ensures { λ r. ⌜ Contract (call (configOf c) s reply) (before sizes words mem)
         (outcome r reply (after sizes words mem)) ⌝ }
 {
@@ -209,7 +209,7 @@ fn serve_middle(
     s: &[u8],
     reply: &mut [u8],
 ) -> Served
-    requires { ⌜ Shaped (geometryOf (c .geometry)) (tables sizes words mem) × (CallFits (now s) (now reply) × (c .geometry .blocks ≤ 4096)) ⌝ }
+    requires { ⌜ Admitted (geometryOf (c .geometry)) (tables sizes words mem) (now s) (now reply) 4096 ⌝ }
     ensures { λ r. ⌜ Contract (call (configOf c) s reply) (before sizes words mem)
         (outcome r reply (after sizes words mem)) ⌝ }
 {
@@ -225,7 +225,7 @@ fn serve_large(
     s: &[u8],
     reply: &mut [u8],
 ) -> Served
-    requires { ⌜ Shaped (geometryOf (c .geometry)) (tables sizes words mem) × (CallFits (now s) (now reply) × (c .geometry .blocks ≤ 65536)) ⌝ }
+    requires { ⌜ Admitted (geometryOf (c .geometry)) (tables sizes words mem) (now s) (now reply) 65536 ⌝ }
     ensures { λ r. ⌜ Contract (call (configOf c) s reply) (before sizes words mem)
         (outcome r reply (after sizes words mem)) ⌝ }
 {

@@ -7,12 +7,12 @@ use native.Mathlib.Nat.{le-of-suc-le-suc}
 use native.Mathlib.Decide.{decLt}
 use native.Mathlib.Numerals.{add-one}
 use native.Mathlib.Omega.{arith}
-use borrow.Author.Tests.{eqb-true, eqb-false, lt-ltb, ltb-true, ltb-false, le-leb}
+use borrow.Author.Tests.{eqb-true, eqb-false, lt-ltb, le-ltb, ltb-true, ltb-false, le-leb}
 use lib.ListN.{length, length-take, getD, take, drop}
 use lib.Seq.{drop-drop}
 use lib.Dec.{leb, ltb, eqb}
 use Rattle.rules.specs.Lists.{bit, count, sumTo, countTo, allTo}
-use Rattle.rules.specs.Store.{isHole, isReserved, isShared, holders, blockBound, used, owes, owed, need, fitsPool, lowestFree}
+use Rattle.rules.specs.Store.{isHole, isReserved, isShared, blockBound, used, owes, owed, need, fitsPool, lowestFree}
 use Rattle.tables.specs.Tables.{Tallied, TableTrue}
 use Rattle.tables.specs.Tally.{someReserved, takesBy, owesBy, InTable, OwedFrom, firstZero, HeldFrom}
 use Rattle.tables.specs.declared.groups.Sort.{Sort}
@@ -150,12 +150,13 @@ reserved-sides = count-two isReserved (λ w. not (isReserved w)) (λ w. go (isRe
     go true = refl
     go false = refl
 
-pub none-reserved : (l : List ℕ) → allTo (length l) (λ j. not (isReserved (getD l j 0))) ≡ true → count isReserved l ≡ 0
-none-reserved l e = omega (arith, reserved-sides l, eqb-true (count (λ w. not (isReserved w)) l) (length l) (count-allTo (λ w. not (isReserved w)) l ∙ e))
-
-pub one-reserved : (l : List ℕ) → allTo (length l) (λ j. not (isReserved (getD l j 0))) ≡ false → true ≡ someReserved l
-one-reserved l e =
-    sym (lt-ltb 0 (count isReserved l) (omega (arith, reserved-sides l, eqb-false (count (λ w. not (isReserved w)) l) (length l) (count-allTo (λ w. not (isReserved w)) l ∙ e))))
+-- one is, or none is
+pub some-is : (l : List ℕ) → someReserved l ≡ not (allTo (length l) (λ j. not (isReserved (getD l j 0))))
+some-is l = go _ (count-allTo (λ w. not (isReserved w)) l)
+  where
+    go : (t : Bool) → eqb (count (λ w. not (isReserved w)) l) (length l) ≡ t → someReserved l ≡ not t
+    go true e = le-ltb 0 (count isReserved l) (omega (arith, reserved-sides l, eqb-true (count (λ w. not (isReserved w)) l) (length l) e))
+    go false e = lt-ltb 0 (count isReserved l) (omega (arith, reserved-sides l, eqb-false (count (λ w. not (isReserved w)) l) (length l) e))
 
 pub unreserved : (l : List ℕ) → someReserved l ≡ false → count isReserved l ≡ 0
 unreserved l e = omega (arith, ltb-false 0 (count isReserved l) e)

@@ -49,7 +49,7 @@ serve-small-requires : tie.Need-serve-small-requires
 serve-small-requires c κs =
     let f = c .before .before .before .before in
     let i = f .before .before .before in
-    (past-two (i .before .before .before), (record { request = i .before .if4 .left; room = i .if5 .left }, f .if6 .taken))
+    record { shaped = past-two (i .before .before .before); call = record { request = i .before .if4 .left; room = i .if5 .left }; blocks = f .if6 .taken }
 
 returns-6 : tie.Need-returns-6
 returns-6 c = let k = c .before .before .before .before .before .before .before .before in rw (k .before .before .before .before .before .before .before .verifier .ensures) at (k .serve-small .ensures)
@@ -58,7 +58,7 @@ serve-middle-requires : tie.Need-serve-middle-requires
 serve-middle-requires c κs =
     let f = c .before .before .before .before in
     let i = f .before .before .before .before .before in
-    (past-two (i .before .before .before), (record { request = i .before .if4 .left; room = i .if5 .left }, f .if7 .taken))
+    record { shaped = past-two (i .before .before .before); call = record { request = i .before .if4 .left; room = i .if5 .left }; blocks = f .if7 .taken }
 
 returns-7 : tie.Need-returns-7
 returns-7 c = let k = c .before .before .before .before .before .before .before .before in rw (k .before .before .before .before .before .before .before .before .before .verifier .ensures) at (k .serve-middle .ensures)
@@ -67,7 +67,7 @@ serve-large-requires : tie.Need-serve-large-requires
 serve-large-requires c κs =
     let i = c .before .before .before .before .before .before .before .before .before in
     let h = past-two (i .before .before .before) in
-    (h, (record { request = i .before .if4 .left; room = i .if5 .left }, most-blocks h))
+    record { shaped = h; call = record { request = i .before .if4 .left; room = i .if5 .left }; blocks = most-blocks h }
 
 returns-8 : tie.Need-returns-8
 returns-8 c = let k = c .before .before .before .before .before .before .before .before in rw (k .before .before .before .before .before .before .before .before .before .verifier .ensures) at (k .serve-large .ensures)

@@ -1,6 +1,7 @@
-use mathlib.Core.Path.{sym, _∙_}
+use mathlib.Core.Path.{sym, ap, _∙_}
+use mathlib.Core.Bool.{not}
 use borrow.Author.Needs.{needs}
-use Rattle.tables.proofs.PoolLaws.{none-reserved, one-reserved, fits-unreserved}
+use Rattle.tables.proofs.PoolLaws.{some-is, unreserved, fits-unreserved}
 use Rattle.tables.proofs.pool.fits_pool.Statement.{statement}
 use Rattle.tables.proofs.pool.fits_pool.Tie as tie
 
@@ -8,7 +9,8 @@ returns : tie.Need-returns
 returns c =
     let k = c .before in
     let s = k .before .before .before in
-    fits-unreserved (s .pre) (none-reserved (s .args .words .now) (sym (k .all-of-sort .ensures) ∙ c .if1 .taken))
+    let ws = s .args .words .now in
+    fits-unreserved (s .pre) (unreserved ws (some-is ws ∙ ap not (sym (k .all-of-sort .ensures) ∙ c .if1 .taken)))
 
 fits-of-requires : tie.Need-fits-of-requires
 fits-of-requires c κs =
@@ -17,7 +19,7 @@ fits-of-requires c κs =
     let s = k .before .before .before in
     record {
       counted = s .pre;
-      slots = record { held-is = c .count-of-sort .ensures; reserved-is = one-reserved (s .args .words .now) (sym (k .all-of-sort .ensures) ∙ i .if1 .left) };
+      slots = record { held-is = c .count-of-sort .ensures; reserved-is = sym (some-is (s .args .words .now) ∙ ap not (sym (k .all-of-sort .ensures) ∙ i .if1 .left)) };
     }
 
 pub fits-pool-spec : {M : Type 1} → statement M

@@ -3,5 +3,3 @@ pub mod RequestLaws
 pub mod ReadLaws
 pub mod OpenLaws
 pub mod RecordLaws
-pub mod HeldReply
-pub mod PassedOn

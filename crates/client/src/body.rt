@@ -14,14 +14,14 @@ use wire::Operation;
 use xdr::{Bytes, Cursor, Long, Word};
 
 // A body and the place behind it, or the place of the fault.
-#[derive(Drop)]
+#[derive(Clone, Copy)]
 pub enum BodyRead {
     Found(Body, Cursor),
     Fault(usize),
 }
 
 // Where pieces end, or the place of the fault.
-#[derive(Drop)]
+#[derive(Clone, Copy)]
 pub enum PiecesEnd {
     At(Cursor),
     Fault(usize),

@@ -9,7 +9,7 @@ use xdr::{Bytes, Cursor, Span, Word};
 
 // The number, 0 or a refusal, the reply's status, and the place of the first result. A reply that is refused has no status, and its first
 // place is its end.
-#[derive(Drop)]
+#[derive(Clone, Copy)]
 pub struct Opened {
     pub number: u32,
     pub status: u32,
@@ -48,7 +48,7 @@ impl Opened {
 }
 
 // Status, tag and number of results.
-#[derive(Drop)]
+#[derive(Clone, Copy)]
 pub struct Head {
     pub status: u32,
     pub tag: Span,
@@ -56,14 +56,14 @@ pub struct Head {
     pub first: Cursor,
 }
 
-#[derive(Drop)]
+#[derive(Clone, Copy)]
 pub enum HeadRead {
     Found(Head),
     Fault(usize),
 }
 
 // Where the result at `c` ends, if it is operation n's and its status is e.
-#[derive(Drop)]
+#[derive(Clone, Copy)]
 pub enum Checked {
     At(Cursor),
     Wrong,

@@ -10,7 +10,7 @@ use crate::reply::{PieceRead, Step};
 use crate::result::step;
 use xdr::{Cursor, Span};
 
-#[derive(Drop)]
+#[derive(Clone, Copy)]
 pub struct ReplyReader<'a> {
     pub reply: &'a [u8],
     pub at: usize,

@@ -7,7 +7,7 @@ use crate::request::{Wrote, write_request};
 use wire::{CloneArgs, CopyArgs, Operation, ReadArgs, RegionArgs, WriteArgs};
 use xdr::Span;
 
-#[derive(Drop)]
+#[derive(Clone, Copy)]
 pub struct OpRecord {
     pub number: u64,
     pub first: Span,
@@ -29,7 +29,7 @@ impl OpRecord {
 }
 
 // The operation of a record, if it has one.
-#[derive(Drop)]
+#[derive(Clone, Copy)]
 pub enum Made {
     Op(Operation),
     Wrong,

@@ -2,27 +2,27 @@
 use xdr::{Cursor, Span};
 
 // GETATTR's: the bitmap's words, and the values.
-#[derive(Drop)]
+#[derive(Clone, Copy)]
 pub struct AttrsBody {
     pub bitmap: Span,
     pub values: Span,
 }
 
 // READ's. What stands for a boolean here and below is 0 or 1.
-#[derive(Drop)]
+#[derive(Clone, Copy)]
 pub struct DataBody {
     pub eof: u32,
     pub data: Span,
 }
 
-#[derive(Drop)]
+#[derive(Clone, Copy)]
 pub struct WrittenBody {
     pub count: u32,
     pub committed: u32,
     pub verifier: Span,
 }
 
-#[derive(Drop)]
+#[derive(Clone, Copy)]
 pub struct CopiedBody {
     pub count: u64,
     pub committed: u32,
@@ -32,21 +32,21 @@ pub struct CopiedBody {
 }
 
 // READ_PLUS's: so many pieces, the first at `first`.
-#[derive(Drop)]
+#[derive(Clone, Copy)]
 pub struct PiecesBody {
     pub eof: u32,
     pub count: u32,
     pub first: Cursor,
 }
 
-#[derive(Drop)]
+#[derive(Clone, Copy)]
 pub struct SoughtBody {
     pub eof: u32,
     pub offset: u64,
 }
 
 // The body of a result. It is empty where the operation failed, or answers OK alone.
-#[derive(Drop)]
+#[derive(Clone, Copy)]
 pub enum Body {
     Empty,
     Attrs(AttrsBody),
@@ -58,7 +58,7 @@ pub enum Body {
     Sought(SoughtBody),
 }
 
-#[derive(Drop)]
+#[derive(Clone, Copy)]
 pub struct OpResult {
     pub number: u32,
     pub status: u32,
@@ -66,27 +66,27 @@ pub struct OpResult {
 }
 
 // What stands at a place of a reply: a result and the place of the next one; nothing more; or no result, with the place of the fault.
-#[derive(Drop)]
+#[derive(Clone, Copy)]
 pub enum Step {
     Handed(OpResult, Cursor),
     Done,
     Faulty(usize),
 }
 
-#[derive(Drop)]
+#[derive(Clone, Copy)]
 pub struct DataPiece {
     pub offset: u64,
     pub data: Span,
 }
 
-#[derive(Drop)]
+#[derive(Clone, Copy)]
 pub struct HolePiece {
     pub offset: u64,
     pub length: u64,
 }
 
 // A piece of READ_PLUS and the place behind it, or the place of the fault.
-#[derive(Drop)]
+#[derive(Clone, Copy)]
 pub enum PieceRead {
     Data(DataPiece, Cursor),
     Hole(HolePiece, Cursor),

@@ -9,7 +9,7 @@ use crate::size::op_size;
 use wire::Operation;
 
 // The number, 0 or a refusal, and the bytes written.
-#[derive(Drop)]
+#[derive(Clone, Copy)]
 pub struct Wrote {
     pub number: u32,
     pub written: usize,

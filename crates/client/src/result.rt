@@ -1,6 +1,6 @@
 // Results, one at a time.
 ghost use Rattle.std.specs.Prelude.{◌≡◌};
-ghost use Rattle.rules.specs.Client.{body_by, result, step};
+ghost use Rattle.rules.specs.Client.{body_by, result as result_at, step};
 ghost use Rattle.client.specs.Read.{of_body_read, of_result_read, of_step};
 
 use crate::body::{BodyRead, ok_body};
@@ -8,7 +8,7 @@ use crate::reply::{Body, OpResult, Step};
 use xdr::{Cursor, Word};
 
 // A result and the place behind it, or the place of the fault.
-#[derive(Drop)]
+#[derive(Clone, Copy)]
 pub enum ResultRead {
     Found(OpResult, Cursor),
     Fault(usize),
@@ -16,7 +16,7 @@ pub enum ResultRead {
 
 // The body of a result of operation n, behind its status e.
 fn body(s: &[u8], c: Cursor, n: u32, e: u32) -> BodyRead
-    ensures* { λ r. ⌜ of_body_read s.now r ≡ body_by n e s.now c.at ⌝ }
+    ensures { of_body_read s.now result ≡ body_by n e s.now c.at }
 {
     if e == 0 {
         return ok_body(s, c, n);
@@ -26,7 +26,7 @@ fn body(s: &[u8], c: Cursor, n: u32, e: u32) -> BodyRead
 
 // The result that stands at `c`.
 pub fn read_result(s: &[u8], c: Cursor) -> ResultRead
-    ensures* { λ r. ⌜ of_result_read s.now r ≡ result s.now c.at ⌝ }
+    ensures { of_result_read s.now result ≡ result_at s.now c.at }
 {
     let n = c.word(s);
     let Word::Value(number, c2) = n else {
@@ -51,7 +51,7 @@ pub fn read_result(s: &[u8], c: Cursor) -> ResultRead
 
 // What is handed out at place `at` of a reply.
 pub fn step(s: &[u8], at: usize) -> Step
-    ensures* { λ r. ⌜ of_step s.now r ≡ step s.now at ⌝ }
+    ensures { of_step s.now result ≡ step s.now at }
 {
     if s.len() <= at {
         return Step::Done;

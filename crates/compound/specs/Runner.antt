@@ -177,8 +177,8 @@ refused_with number place = record { number = number; read = 0; written = 0; pla
 
 -- ---- the call, as its contract names it
 
-abbrev pub call : Config → Held → Held → Call
-call c s reply = record { config = c; request = s.entry.now; buffer = reply.entry.now }
+abbrev pub call : Config → List ℕ → List ℕ → Call
+call c s reply = record { config = c; request = s; buffer = reply }
 
-abbrev pub outcome : Served → Held → Store → Outcome Store
-outcome r reply st = record { number = r.number; read = r.read; written = r.written; place = r.place; reply = reply.exit.now; store = st }
+abbrev pub outcome : Served → List ℕ → Store → Outcome Store
+outcome r reply st = record { number = r.number; read = r.read; written = r.written; place = r.place; reply = reply; store = st }

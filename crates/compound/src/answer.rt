@@ -6,21 +6,21 @@ ghost use Rattle.compound.specs.Runner.{file_in, Wrote};
 
 use wire::put_result;
 
-#[derive(Drop)]
+#[derive(Clone, Copy)]
 pub enum Handle {
     Nothing,
     File(usize),
 }
 
 // The two handles, and the place in the reply where the next result goes.
-#[derive(Drop)]
+#[derive(Clone, Copy)]
 pub struct Position {
     pub current: Handle,
     pub saved: Handle,
     pub at: usize,
 }
 
-#[derive(Drop)]
+#[derive(Clone, Copy)]
 pub struct Answer {
     pub status: u32,
     pub after: Position,

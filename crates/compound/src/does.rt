@@ -15,7 +15,7 @@ use wire::{CloneArgs, CopyArgs, Operation, RegionArgs, WriteArgs, asked_in};
 use xdr::Span;
 
 // WRITE's data stand in the request; another edit's span is empty.
-#[derive(Drop)]
+#[derive(Clone, Copy)]
 pub enum Does {
     Sets(Handle, Handle),
     Shows(View),

@@ -1,4 +1,6 @@
 // The compound runner: operations run and answered.
+#![tactic(auto)]
+
 mod answer;
 mod clones;
 mod does;

@@ -11,7 +11,7 @@ ghost use Rattle.compound.specs.Pieces.{PieceFits, PiecesFit, PiecesPut, piece_s
 use tables::Geometry;
 
 // How many pieces were written, and the place after them.
-#[derive(Drop)]
+#[derive(Clone, Copy)]
 pub struct Pieces {
     pub count: u32,
     pub next: usize,

@@ -2,7 +2,7 @@
 ghost use Rattle.std.specs.Prelude.{◌≡◌, List, ℕ, ◌+◌, ◌-◌, ◌^◌, ◌<◌, ◌≤◌, min, length, leb};
 ghost use Rattle.xdr.specs.Bytes.{Written};
 ghost use Rattle.xdr.specs.Encode.{u32, opaque};
-ghost use Rattle.tables.specs.Lent.{geometry_of, before, tables};
+ghost use Rattle.tables.specs.Lent.{geometry_of, tables};
 ghost use Rattle.rules.specs.Read.{granted};
 ghost use Rattle.rules.specs.Attributes.{file_attrs};
 ghost use Rattle.rules.specs.Operation.{attrs_reply, read_reply, read_plus_reply, seek_reply};
@@ -71,9 +71,9 @@ fn put_read(
     reply: &mut [u8],
     at: usize,
 ) -> usize
-    requires { Shows (geometry_of g) (tables sizes words mem) f reply.old at }
-    ensures { Written (read_reply (geometry_of g) (before sizes words mem) f off n)
-        (length (read_reply (geometry_of g) (before sizes words mem) f off n)) at reply.old reply.new result }
+    requires { Shows (geometry_of g) (tables sizes.now words.now mem.now) f reply.old at }
+    ensures { Written (read_reply (geometry_of g) (tables sizes.now words.now mem.now) f off n)
+        (length (read_reply (geometry_of g) (tables sizes.now words.now mem.now) f off n)) at reply.old reply.new result }
 {
     let size = sizes[f];
     let data = xdr::put_bool(reply, at, reaches(size, off, grant(n)));
@@ -96,9 +96,9 @@ fn put_read_plus(
     reply: &mut [u8],
     at: usize,
 ) -> usize
-    requires { Shows (geometry_of g) (tables sizes words mem) f reply.old at }
-    ensures { Written (read_plus_reply (geometry_of g) (before sizes words mem) f off n)
-        (length (read_plus_reply (geometry_of g) (before sizes words mem) f off n)) at reply.old reply.new result }
+    requires { Shows (geometry_of g) (tables sizes.now words.now mem.now) f reply.old at }
+    ensures { Written (read_plus_reply (geometry_of g) (tables sizes.now words.now mem.now) f off n)
+        (length (read_plus_reply (geometry_of g) (tables sizes.now words.now mem.now) f off n)) at reply.old reply.new result }
 {
     let size = sizes[f];
     let number = xdr::put_bool(reply, at, reaches(size, off, grant(n)));
@@ -164,7 +164,7 @@ fn put_handle(reply: &mut [u8], at: usize, f: usize) -> usize
 }
 
 // What a result shows of the current file. SEEK's `count` is the kind that is asked for.
-#[derive(Drop)]
+#[derive(Clone, Copy)]
 pub enum View {
     Attrs(Asked),
     Handle,
@@ -185,8 +185,8 @@ fn put_view(
     reply: &mut [u8],
     at: usize,
 ) -> usize
-    requires { Views (geometry_of g) (tables sizes words mem) counts.old f reply.old at }
-    ensures { Viewed (view_bytes (geometry_of g) (before sizes words mem) f v)
+    requires { Views (geometry_of g) (tables sizes.now words.now mem.now) counts.old f reply.old at }
+    ensures { Viewed (view_bytes (geometry_of g) (tables sizes.now words.now mem.now) f v)
         at reply.old reply.new result counts.old counts.new }
 {
     match v {
@@ -210,8 +210,8 @@ pub fn show(
     p: Position,
     reply: &mut [u8],
 ) -> Answer
-    requires { Runs (geometry_of g) (state_of p (tables sizes words mem)) counts.old reply.old p.at }
-    ensures { Showed number (view_bytes (geometry_of g) (before sizes words mem) (file_of (file_in p.current)) v) p
+    requires { Runs (geometry_of g) (state_of p (tables sizes.now words.now mem.now)) counts.old reply.old p.at }
+    ensures { Showed number (view_bytes (geometry_of g) (tables sizes.now words.now mem.now) (file_of (file_in p.current)) v) p
         result reply.old reply.new counts.old counts.new }
 {
     let current = p.current;

@@ -1,6 +1,6 @@
 // The operations of a compound, one after the other, up to the first that fails.
 ghost use Rattle.std.specs.Prelude.{◌≡◌, List, ℕ, ◌+◌, ◌<◌, ◌≤◌, length};
-ghost use Rattle.tables.specs.Lent.{geometry_of, after, before, tables};
+ghost use Rattle.tables.specs.Lent.{geometry_of, tables};
 ghost use Rattle.tables.specs.Tables.{TableTrue};
 ghost use Rattle.rules.specs.Store.{Store};
 ghost use Rattle.rules.specs.Operation.{bad, items};
@@ -20,7 +20,7 @@ use wire::{Item, Operation, item};
 use xdr::Cursor;
 
 // What the serving call is given beside the store, the request and the reply buffer.
-#[derive(Drop)]
+#[derive(Clone, Copy)]
 pub struct Config {
     pub geometry: Geometry,
     pub verifier: u64,
@@ -28,7 +28,7 @@ pub struct Config {
 
 // Where a run stands: the last status, the operations reached, the next byte to read, the fault of the last operation, and the
 // position.
-#[derive(Drop)]
+#[derive(Clone, Copy)]
 pub struct Progress {
     pub status: u32,
     pub count: u32,
@@ -68,10 +68,10 @@ fn operation(
     p: Position,
     reply: &mut [u8],
 ) -> Answer
-    requires { Runs (geometry_of c.geometry) (state_of p (tables sizes words mem)) counts.old reply.old p.at }
+    requires { Runs (geometry_of c.geometry) (state_of p (tables sizes.old words.old mem.old)) counts.old reply.old p.at }
     ensures { (next : ℕ) → Answered
-        (perform (config_of c) (state_of p (before sizes words mem)) (meaning s.now o) next)
-        result (after sizes words mem) counts.new p.at reply.old reply.new }
+        (perform (config_of c) (state_of p (tables sizes.old words.old mem.old)) (meaning s.now o) next)
+        result (tables sizes.new words.new mem.new) counts.new p.at reply.old reply.new }
 {
     let g = c.geometry;
     let k = o.number();
@@ -104,9 +104,9 @@ fn step(
     r: Progress,
     reply: &mut [u8],
 ) -> Progress
-    requires { Runs (geometry_of c.geometry) (state_of r.at (tables sizes words mem)) counts.old reply.old r.at.at × (r.count < 12) }
-    ensures { Turned (perform (config_of c) (state_of r.at (before sizes words mem)) (meaning s.now o) r.read) NOWHERE
-        r result (after sizes words mem) counts.new reply.old reply.new }
+    requires { Runs (geometry_of c.geometry) (state_of r.at (tables sizes.old words.old mem.old)) counts.old reply.old r.at.at × (r.count < 12) }
+    ensures { Turned (perform (config_of c) (state_of r.at (tables sizes.old words.old mem.old)) (meaning s.now o) r.read) NOWHERE
+        r result (tables sizes.new words.new mem.new) counts.new reply.old reply.new }
 {
     let p = r.at;
     let a = operation(c, sizes, words, mem, counts, s, o, p, reply);
@@ -150,9 +150,9 @@ fn turn(
     r: Progress,
     reply: &mut [u8],
 ) -> Progress
-    requires { Runs (geometry_of c.geometry) (state_of r.at (tables sizes words mem)) counts.old reply.old r.at.at × (r.count < 12) }
-    ensures { Turned (event_at (config_of c) (state_of r.at (before sizes words mem)) s.now r.read) (fault_at s.now r.read)
-        r result (after sizes words mem) counts.new reply.old reply.new }
+    requires { Runs (geometry_of c.geometry) (state_of r.at (tables sizes.old words.old mem.old)) counts.old reply.old r.at.at × (r.count < 12) }
+    ensures { Turned (event_at (config_of c) (state_of r.at (tables sizes.old words.old mem.old)) s.now r.read) (fault_at s.now r.read)
+        r result (tables sizes.new words.new mem.new) counts.new reply.old reply.new }
 {
     match item(s, Cursor::new(r.read)) {
         Item::Op(o, next) => {
@@ -184,9 +184,9 @@ pub fn run(
     start: Progress,
     reply: &mut [u8],
 ) -> Progress
-    requires { RunsAll (geometry_of c.geometry) (tables sizes words mem) counts.old ops reply.old start }
-    ensures { RanAll s.now (reached (config_of c) (fresh (before sizes words mem)) (items s.now ops start.read))
-        (before sizes words mem) start.read start.at.at result (after sizes words mem) reply.old reply.new }
+    requires { RunsAll (geometry_of c.geometry) (tables sizes.old words.old mem.old) counts.old ops reply.old start }
+    ensures { RanAll s.now (reached (config_of c) (fresh (tables sizes.old words.old mem.old)) (items s.now ops start.read))
+        (tables sizes.old words.old mem.old) start.read start.at.at result (tables sizes.new words.new mem.new) reply.old reply.new }
 {
     let mut r = start;
     while r.count < ops {

@@ -2,7 +2,7 @@
 ghost use Rattle.std.specs.Prelude.{◌≡◌, not, cond, ltb, eqb, [], ◌∷◌, ◌+◌, ◌≤◌, length};
 ghost use Rattle.xdr.specs.Bytes.{part_of, Written};
 ghost use Rattle.xdr.specs.Encode.{u64, opaque_size};
-ghost use Rattle.tables.specs.Lent.{geometry_of, after, before, tables};
+ghost use Rattle.tables.specs.Lent.{geometry_of, tables};
 ghost use Rattle.rules.specs.Lists.{first};
 ghost use Rattle.rules.specs.Store.{sound};
 ghost use Rattle.rules.specs.Operation.{MINOR_VERS_MISMATCH, TOO_MANY_OPS};
@@ -21,7 +21,7 @@ use wire::{Header, HeaderRead, Item, Operation, header};
 use xdr::{Cursor, Long};
 
 // A refusal with zero counts, or 0 with the bytes read and written; and the place where the request went wrong.
-#[derive(Drop)]
+#[derive(Clone, Copy)]
 pub struct Served {
     pub number: u32,
     pub read: usize,
@@ -104,9 +104,9 @@ fn serve_operations(
     h: Header,
     reply: &mut [u8],
 ) -> Served
-    requires { Serves (geometry_of c.geometry) (tables sizes words mem) counts.old reply.old × (length (part_of s.now h.tag) ≤ 1024) }
-    ensures { ServedRight (config_of c) (before sizes words mem) s.now (header_of s.now h) h.next.at
-        reply.old (outcome result reply (after sizes words mem)) }
+    requires { Serves (geometry_of c.geometry) (tables sizes.old words.old mem.old) counts.old reply.old × (length (part_of s.now h.tag) ≤ 1024) }
+    ensures { ServedRight (config_of c) (tables sizes.old words.old mem.old) s.now (header_of s.now h) h.next.at
+        reply.old (outcome result reply.new (tables sizes.new words.new mem.new)) }
 {
     let d = h.tag;
     let tag = xdr::part(s, d);
@@ -142,9 +142,9 @@ fn serve_counted(
     s: &[u8],
     reply: &mut [u8],
 ) -> Served
-    requires { TableReady (geometry_of c.geometry) (tables sizes words mem) counts.old × CallFits s.now reply.old }
-    ensures { Contract (call (config_of c) s reply) (before sizes words mem)
-        (outcome result reply (after sizes words mem)) }
+    requires { TableReady (geometry_of c.geometry) (tables sizes.old words.old mem.old) counts.old × CallFits s.now reply.old }
+    ensures { Contract (call (config_of c) s.now reply.old) (tables sizes.old words.old mem.old)
+        (outcome result reply.new (tables sizes.new words.new mem.new)) }
 {
     if !tables::judge_tables(c.geometry, sizes, words, mem, counts) {
         return Served::refused(Surveyed::UNSOUND);
@@ -165,9 +165,9 @@ fn serve_in(
     s: &[u8],
     reply: &mut [u8],
 ) -> Served
-    requires { TableFits (geometry_of c.geometry) (tables sizes words mem) counts.old × CallFits s.now reply.old }
-    ensures { Contract (call (config_of c) s reply) (before sizes words mem)
-        (outcome result reply (after sizes words mem)) }
+    requires { TableFits (geometry_of c.geometry) (tables sizes.old words.old mem.old) counts.old × CallFits s.now reply.old }
+    ensures { Contract (call (config_of c) s.now reply.old) (tables sizes.old words.old mem.old)
+        (outcome result reply.new (tables sizes.new words.new mem.new)) }
 {
     let n = c.geometry.blocks;
     serve_counted(c, sizes, words, mem, &mut counts[..n], s, reply)
@@ -182,9 +182,9 @@ fn serve_small(
     s: &[u8],
     reply: &mut [u8],
 ) -> Served
-    requires { Admitted (geometry_of c.geometry) (tables sizes words mem) s.now reply.old 256 }
-    ensures { Contract (call (config_of c) s reply) (before sizes words mem)
-        (outcome result reply (after sizes words mem)) }
+    requires { Admitted (geometry_of c.geometry) (tables sizes.old words.old mem.old) s.now reply.old 256 }
+    ensures { Contract (call (config_of c) s.now reply.old) (tables sizes.old words.old mem.old)
+        (outcome result reply.new (tables sizes.new words.new mem.new)) }
 {
     let mut counts = [0u32; Geometry::SMALL_POOL];
     serve_in(c, sizes, words, mem, &mut counts, s, reply)
@@ -198,9 +198,9 @@ fn serve_middle(
     s: &[u8],
     reply: &mut [u8],
 ) -> Served
-    requires { Admitted (geometry_of c.geometry) (tables sizes words mem) s.now reply.old 4096 }
-    ensures { Contract (call (config_of c) s reply) (before sizes words mem)
-        (outcome result reply (after sizes words mem)) }
+    requires { Admitted (geometry_of c.geometry) (tables sizes.old words.old mem.old) s.now reply.old 4096 }
+    ensures { Contract (call (config_of c) s.now reply.old) (tables sizes.old words.old mem.old)
+        (outcome result reply.new (tables sizes.new words.new mem.new)) }
 {
     let mut counts = [0u32; Geometry::MIDDLE_POOL];
     serve_in(c, sizes, words, mem, &mut counts, s, reply)
@@ -214,9 +214,9 @@ fn serve_large(
     s: &[u8],
     reply: &mut [u8],
 ) -> Served
-    requires { Admitted (geometry_of c.geometry) (tables sizes words mem) s.now reply.old 65536 }
-    ensures { Contract (call (config_of c) s reply) (before sizes words mem)
-        (outcome result reply (after sizes words mem)) }
+    requires { Admitted (geometry_of c.geometry) (tables sizes.old words.old mem.old) s.now reply.old 65536 }
+    ensures { Contract (call (config_of c) s.now reply.old) (tables sizes.old words.old mem.old)
+        (outcome result reply.new (tables sizes.new words.new mem.new)) }
 {
     let mut counts = [0u32; Geometry::MAX_BLOCKS];
     serve_in(c, sizes, words, mem, &mut counts, s, reply)
@@ -224,8 +224,8 @@ fn serve_large(
 
 // A refusal that comes behind that of a store which is not sound.
 fn refused_behind(number: u32, g: Geometry, sizes: &[u64], words: &[u32], mem: &[u8]) -> Served
-    requires { Shaped (geometry_of g) (tables sizes words mem) }
-    ensures { result ≡ refused_with (cond (sound (geometry_of g) (before sizes words mem)) number 3) NOWHERE }
+    requires { Shaped (geometry_of g) (tables sizes.now words.now mem.now) }
+    ensures { result ≡ refused_with (cond (sound (geometry_of g) (tables sizes.now words.now mem.now)) number 3) NOWHERE }
 {
     if tables::survey(g, sizes, words, mem).number != 0 {
         return Served::refused(Surveyed::UNSOUND);
@@ -255,8 +255,8 @@ pub fn serve(
     s: &[u8],
     reply: &mut [u8],
 ) -> Served
-    ensures { Contract (call (config (geometry_of g) v.now) s reply) (before sizes words mem)
-        (outcome result reply (after sizes words mem)) }
+    ensures { Contract (call (config (geometry_of g) v.now) s.now reply.old) (tables sizes.old words.old mem.old)
+        (outcome result reply.new (tables sizes.new words.new mem.new)) }
 {
     if !g.good() {
         return Served::refused(Surveyed::GEOMETRY);

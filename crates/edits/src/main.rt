@@ -4,6 +4,8 @@
 // Any other line is a COMPOUND in hexadecimal. Its answer is the reply's digits, or "-" and the refusal, then the used
 // and the owed blocks. The first store has F 4, S 16, N 32, B 512. The verifier is zero.
 // A test before a call stands for a proof of what the call requires.
+#![tactic(auto)]
+
 ghost use Rattle.std.specs.Prelude.{◌≤◌, length};
 
 use compound::Served;
@@ -13,7 +15,7 @@ use tables::Geometry;
 use xdr::{Cursor, Word};
 
 // What is known between two bytes of the input: the geometry, the length of the line so far, whether input is left.
-#[derive(Drop)]
+#[derive(Clone, Copy)]
 struct State {
     g: Geometry,
     length: usize,

@@ -4,7 +4,7 @@ ghost use Rattle.std.specs.Prelude.{◌≡◌, ◌+◌, ◌≤◌, length, repli
 ghost use Rattle.bytes.specs.Bytes.{slice, index_of};
 ghost use Rattle.frame.specs.Blocks.{mismatch as Blocks·mismatch, mismatches as Blocks·mismatches, Same, Plain};
 
-#[derive(Drop)]
+#[derive(Clone, Copy)]
 struct Block {}
 
 impl Block {

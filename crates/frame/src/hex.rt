@@ -4,20 +4,20 @@ ghost use Rattle.xdr.specs.Bytes.{Written};
 ghost use Rattle.rules.specs.Line.{digit_value, byte_of, digit, byte_digits, hex_line, refusal_line};
 ghost use Rattle.frame.specs.Hex.{of_digit, of_byte, RequestRead};
 
-#[derive(Drop)]
+#[derive(Clone, Copy)]
 pub enum Digit {
     Value(u8),
     Other,
 }
 
-#[derive(Drop)]
+#[derive(Clone, Copy)]
 pub enum Byte {
     Value(u8),
     Other,
 }
 
 // `Bytes(n)`: the line's n bytes stand at the start of the buffer.
-#[derive(Drop)]
+#[derive(Clone, Copy)]
 pub enum Request {
     Bytes(usize),
     Refused,

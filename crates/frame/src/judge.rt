@@ -2,7 +2,7 @@
 ghost use Rattle.std.specs.Prelude.{◌≡◌, true, cond, ltb, eqb, ◌+◌, ◌≤◌, length, take};
 ghost use Rattle.frame.specs.declared.judge.Verdict.{Verdict};
 ghost use Rattle.frame.specs.declared.judge.Step.{Step};
-ghost use Rattle.tables.specs.Lent.{after, before};
+ghost use Rattle.tables.specs.Lent.{tables};
 ghost use Rattle.frame.specs.Text.{part};
 ghost use Rattle.frame.specs.Recording.{lower as Recording·lower, alike as Recording·alike};
 ghost use Rattle.frame.specs.Judging.{next as Judging·next, place_in, Asks, Replies, Answers, judging_of, judge_part, judge_text, judge_call, within as Judging·within, fits as Judging·fits, is_parted, JudgePromise, Untouched};
@@ -16,7 +16,7 @@ use crate::text::{keep, least, past};
 // Where a pair stands. `Asking(k)`: k characters are kept of the request's line, which has not ended. `Asked(k)`: it has,
 // and nothing of the reply's line came. `Comparing(n, at)`: the answer has n characters, and `at` of the reply's line came,
 // all alike. `Parted(place)`: the byte of the first difference.
-#[derive(Drop)]
+#[derive(Clone, Copy)]
 pub enum Step {
     Asking(usize),
     Asked(usize),
@@ -26,7 +26,7 @@ pub enum Step {
 
 // `Differs(pair, place)`: the first pair that differs, counted from 1, and the byte. `Refused`: the numbers or the buffers
 // are not those of a recording that is judged.
-#[derive(Drop)]
+#[derive(Clone, Copy)]
 pub enum Verdict {
     Same(u64),
     Differs(u64, usize),
@@ -40,7 +40,7 @@ impl Verdict {
 }
 
 // How many pairs are the same, and where the next one stands.
-#[derive(Drop)]
+#[derive(Clone, Copy)]
 pub struct Judge {
     pairs: u64,
     step: Step,
@@ -166,8 +166,8 @@ fn answers(
     pairs: u64,
 ) -> Judge
     requires { 65536 ≤ length out.old }
-    ensures { Answers (before sizes words mem) pairs request.now (part text.now ended) result out.new
-        (after sizes words mem) }
+    ensures { Answers (tables sizes.old words.old mem.old) pairs request.now (part text.now ended) result out.new
+        (tables sizes.new words.new mem.new) }
 {
     let n = serve_line(sizes, words, mem, request, out);
     replies(out, n, 0, text, ended, pairs)
@@ -186,9 +186,9 @@ fn judge_part(
 ) -> Judge
     requires { Judging·fits j line.old out.old ≡ true }
     ensures { JudgePromise
-        (judge_part (judging_of j line.old out.old (before sizes words mem)) (part text.now ended))
+        (judge_part (judging_of j line.old out.old (tables sizes.old words.old mem.old)) (part text.now ended))
         j result line.new out.new
-        (after sizes words mem) }
+        (tables sizes.new words.new mem.new) }
 {
     let pairs = j.pairs;
     let step = j.step;
@@ -215,9 +215,9 @@ fn judge_parts(
 ) -> Judge
     requires { Judging·fits j line.old out.old ≡ true }
     ensures { JudgePromise
-        (judge_text (judging_of j line.old out.old (before sizes words mem)) text.now)
+        (judge_text (judging_of j line.old out.old (tables sizes.old words.old mem.old)) text.now)
         j result line.new out.new
-        (after sizes words mem) }
+        (tables sizes.new words.new mem.new) }
 {
     let mut i = 0;
     let mut q = j;
@@ -276,9 +276,9 @@ pub fn judge_text(
     j: Judge,
 ) -> Judge
     ensures judge_promise { JudgePromise
-        (judge_call j line.old out.old (before sizes words mem) text.now)
+        (judge_call j line.old out.old (tables sizes.old words.old mem.old) text.now)
         j result line.new out.new
-        (after sizes words mem) }
+        (tables sizes.new words.new mem.new) }
     ensures untouched { Untouched (Judging·fits j line.old out.old) j result
         line.old line.new out.old out.new }
 {

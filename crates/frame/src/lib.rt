@@ -1,4 +1,6 @@
 // Lines of hexadecimal in, lines out; a recording judged. The rules stand in specs/.
+#![tactic(auto)]
+
 mod blocks;
 mod hex;
 mod judge;

@@ -1,6 +1,6 @@
 // The call on one line: its digits read, the request served, the answer written as digits.
 ghost use Rattle.std.specs.Prelude.{◌≡◌, ◌≤◌, length, replicate};
-ghost use Rattle.tables.specs.Lent.{geometry_of, after, before};
+ghost use Rattle.tables.specs.Lent.{geometry_of, tables};
 ghost use Rattle.rules.specs.Calls.{Contract};
 ghost use Rattle.rules.specs.Line.{frame_geometry, frame_call, answer_line, answer_request};
 ghost use Rattle.compound.specs.Runner.{outcome};
@@ -14,7 +14,7 @@ use tables::Geometry;
 pub const MIN_OUT: usize = 65536;
 
 // The store that the programs' lines are served on: F 4, S 16, N 32, B 512.
-#[derive(Drop)]
+#[derive(Clone, Copy)]
 pub struct Frame {}
 
 impl Frame {
@@ -47,8 +47,8 @@ fn serve_frame(
 ) -> Served
     requires { reply.old ≡ replicate 32768 0 }
     ensures { Contract (frame_call s.now)
-        (before sizes words mem)
-        (outcome result reply (after sizes words mem)) }
+        (tables sizes.old words.old mem.old)
+        (outcome result reply.new (tables sizes.new words.new mem.new)) }
 {
     let verifier = [0u8; Served::VERIFIER];
     compound::serve(frame_geometry(), sizes, words, mem, &verifier, s, reply)
@@ -65,9 +65,9 @@ fn serve_into(
 ) -> usize
     requires { (reply.old ≡ replicate 32768 0) × (65536 ≤ length out.old) }
     ensures { LinePromise
-        (answer_request (before sizes words mem) s.now)
+        (answer_request (tables sizes.old words.old mem.old) s.now)
         out.old result out.new
-        (after sizes words mem) }
+        (tables sizes.new words.new mem.new) }
 {
     let r = serve_frame(sizes, words, mem, s, reply);
     if r.number != 0 {
@@ -87,9 +87,9 @@ fn serve_request(
 ) -> usize
     requires { 65536 ≤ length out.old }
     ensures { LinePromise
-        (answer_request (before sizes words mem) s.now)
+        (answer_request (tables sizes.old words.old mem.old) s.now)
         out.old result out.new
-        (after sizes words mem) }
+        (tables sizes.new words.new mem.new) }
 {
     let mut reply = [0u8; Served::MIN_REPLY];
     serve_into(sizes, words, mem, s, &mut reply, out)
@@ -106,9 +106,9 @@ fn serve_digits(
 ) -> usize
     requires { (4096 ≤ length request.old) × (65536 ≤ length out.old) }
     ensures { LinePromise
-        (answer_line (before sizes words mem) line.now)
+        (answer_line (tables sizes.old words.old mem.old) line.now)
         out.old result out.new
-        (after sizes words mem) }
+        (tables sizes.new words.new mem.new) }
 {
     let Request::Bytes(n) = request_bytes(line, request) else {
         return put_refusal(Request::REFUSED, out);
@@ -126,9 +126,9 @@ fn serve_fitting(
 ) -> usize
     requires { 65536 ≤ length out.old }
     ensures { LinePromise
-        (answer_line (before sizes words mem) line.now)
+        (answer_line (tables sizes.old words.old mem.old) line.now)
         out.old result out.new
-        (after sizes words mem) }
+        (tables sizes.new words.new mem.new) }
 {
     let mut request = [0u8; Request::MAX_BYTES];
     serve_digits(sizes, words, mem, line, &mut request, out)
@@ -144,9 +144,9 @@ pub fn serve_line(
     out: &mut [u8],
 ) -> usize
     ensures { LinePromise
-        (line_into out.old (before sizes words mem) line.now)
+        (line_into out.old (tables sizes.old words.old mem.old) line.now)
         out.old result out.new
-        (after sizes words mem) }
+        (tables sizes.new words.new mem.new) }
 {
     if out.len() < MIN_OUT {
         return 0;

@@ -1,6 +1,6 @@
 // The lines of a text that comes in pieces of any length: what is kept of a line, and the lines that end in a piece served.
 ghost use Rattle.std.specs.Prelude.{◌≡◌, ◌+◌, ◌-◌, ◌≤◌, min, length, take, drop, ltb};
-ghost use Rattle.tables.specs.Lent.{after, before};
+ghost use Rattle.tables.specs.Lent.{tables};
 ghost use Rattle.rules.specs.Line.{answer_line};
 ghost use Rattle.frame.specs.Text.{part, parts_of};
 ghost use Rattle.frame.specs.Reading.{Kept, Answered, reading, reading_of, read_part, read_parts, unready, read_text, read_end, ReadPromise, Stays};
@@ -11,7 +11,7 @@ use crate::line::serve_line;
 
 // After a call on a text: the characters taken of it, those kept of the line that has not ended, and those of the answers
 // that were written.
-#[derive(Drop)]
+#[derive(Clone, Copy)]
 pub struct Progress {
     pub taken: usize,
     pub kept: usize,
@@ -69,9 +69,9 @@ fn answer(
 ) -> usize
     requires { at + 65537 ≤ length out.old }
     ensures { Answered
-        (answer_line (before sizes words mem) line.now)
+        (answer_line (tables sizes.old words.old mem.old) line.now)
         at out.old result out.new
-        (after sizes words mem) }
+        (tables sizes.new words.new mem.new) }
 {
     let n = serve_line(sizes, words, mem, line, &mut out[at..]);
     out[at + n] = b'\n';
@@ -91,10 +91,10 @@ fn serve_part(
 ) -> Progress
     requires { (p.kept ≤ 8193) × ((8193 ≤ length line.old) × ((p.written + 65537 ≤ length out.old) × ((p.taken ≤ end) × (end ≤ length text.now)))) }
     ensures read_promise { ReadPromise
-        (read_part (reading_of p line.old out.old (before sizes words mem))
+        (read_part (reading_of p line.old out.old (tables sizes.old words.old mem.old))
         (part (take (end - p.taken) (drop p.taken text.now)) (ltb end (length text.now))))
         result line.new out.old out.new
-        (after sizes words mem) }
+        (tables sizes.new words.new mem.new) }
     ensures kept_bound { result.kept ≤ 8193 }
 {
     let from = p.taken;
@@ -126,10 +126,10 @@ fn serve_parts(
     requires { (kept ≤ 8193) × (8193 ≤ length line.old) }
     ensures { ReadPromise
         (read_parts (length out.old)
-        (reading (before sizes words mem) (take kept line.old))
+        (reading (tables sizes.old words.old mem.old) (take kept line.old))
         (parts_of text.now))
         result line.new out.old out.new
-        (after sizes words mem) }
+        (tables sizes.new words.new mem.new) }
 {
     let mut p = Progress::new(kept);
     while p.taken < text.len() && Progress::ROOM <= out.len() - p.written {
@@ -152,9 +152,9 @@ pub fn serve_text(
     kept: usize,
 ) -> Progress
     ensures read_promise { ReadPromise
-        (read_text line.old kept out.old (before sizes words mem) text.now)
+        (read_text line.old kept out.old (tables sizes.old words.old mem.old) text.now)
         result line.new out.old out.new
-        (after sizes words mem) }
+        (tables sizes.new words.new mem.new) }
     ensures stays { Stays (unready line.old kept) line.old line.new }
 {
     if line.len() < Request::KEPT {
@@ -176,9 +176,9 @@ pub fn serve_end(
     kept: usize,
 ) -> Progress
     ensures read_promise { ReadPromise
-        (read_end line.old kept out.old (before sizes words mem))
+        (read_end line.old kept out.old (tables sizes.old words.old mem.old))
         result line.new out.old out.new
-        (after sizes words mem) }
+        (tables sizes.new words.new mem.new) }
     ensures stays { Stays (unready line.old kept) line.old line.new }
 {
     if kept == 0 {

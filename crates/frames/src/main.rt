@@ -1,14 +1,16 @@
 // Reads lines of hexadecimal, one frame a line, and writes the answer of each, in order (document 01, "A day's frames").
 // The answers are written when what was read is served, so that whoever waits for one has it.
+#![tactic(auto)]
+
 ghost use Rattle.std.specs.Prelude.{◌≡◌, ◌≤◌, length, take};
-ghost use Rattle.tables.specs.Lent.{after, before};
+ghost use Rattle.tables.specs.Lent.{tables};
 ghost use Rattle.frame.specs.Reading.{Taken};
 
 use frame::{Frame, Request};
 use libc::{STDIN_FILENO, STDOUT_FILENO};
 
 // How many characters are kept of a line whose end is not read yet, and whether to go on.
-#[derive(Drop)]
+#[derive(Clone, Copy)]
 struct State {
     kept: usize,
     going: bool,
@@ -60,8 +62,8 @@ fn serve_piece(
     requires { (length line.old ≡ 8193) × ((65537 ≤ length out.old) × ((kept ≤ 8193) × (length piece.now ≤ 65536))) }
     ensures kept_bound { result.kept ≤ 8193 }
     ensures taken { Taken result.going
-        (before sizes words mem) (take kept line.old) piece.now
-        (after sizes words mem) (take result.kept line.new) }
+        (tables sizes.old words.old mem.old) (take kept line.old) piece.now
+        (tables sizes.new words.new mem.new) (take result.kept line.new) }
 {
     let mut s = State::new(kept);
     let mut i = 0;

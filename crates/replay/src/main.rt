@@ -1,5 +1,7 @@
 // Reads a recording, a request's line and a reply's line by turns, runs the requests on the program's store and says whether
 // the replies are the same: `same N`, `PAIR PLACE` or `odd N`. At the first difference it reads no further.
+#![tactic(auto)]
+
 use frame::{Frame, Judge, Request, Verdict};
 use libc::{STDIN_FILENO, STDOUT_FILENO};
 

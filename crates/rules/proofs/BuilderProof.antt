@@ -18,14 +18,14 @@ use Rattle.xdr.proofs.RoundTrip.{Stands, stands-first, stands-rest}
 use Rattle.rules.specs.Lists.{first}
 use Rattle.rules.specs.Store.{Geometry, Store}
 use Rattle.rules.specs.Operation.{Op, WRITE, op, file_sync, op_fits, request_bytes, header_layout, items, Header, header}
-use Rattle.rules.specs.Run.{State, zero_id, Event, same_bytes, reached}
+use Rattle.rules.specs.Run.{State, config, zero_id, Event, same_bytes, reached}
 use Rattle.rules.specs.Calls.{fresh, header_status, compound, item_number, result_bytes, last_status, reply_head, reply_bytes, Call, Outcome, answer}
 use Rattle.rules.specs.Client.{request_fits, Wrote, not_written, write_refusals, wrote, written, body_bytes, Result, Reply, reply, agree, follow, answers, not_opened, opened}
 use Rattle.rules.specs.Claim.{Entry, serving, Each, machine, events, history, Allocated}
 use Rattle.rules.specs.Builder.{items_from, Decodes, WritingClaim, SameResult, SameResults, op_numbers, ReadsAs, ReplyClaim, reply_of, results_in, pairs, readings, AllocatedAsRead, ReadsWritten, ReadsTrue, BuilderClaim}
 use Rattle.rules.proofs.FirstLaws.{all-clear}
 use Rattle.rules.proofs.GeometryLaws.{Good, good}
-use Rattle.rules.proofs.OperationLaws.{refused, nospc, done}
+use Rattle.rules.proofs.OperationLaws.{Performed, refused, nospc, done}
 use Rattle.rules.proofs.ChainLaws.{op_inj, op≢bad, Step, decoded, undecoded, Chain, nil, cons}
 use Rattle.rules.proofs.ResultLaws.{write-shown}
 use Rattle.rules.proofs.ClaimProof.{Fulfils, claim_of, no-events, serving_fulfils}
@@ -252,9 +252,13 @@ module _ (g : Geometry) (bd : Good g) where
       → (v : List ℕ) × ((step-reads g bd t).body ≡ written (length d) file_sync v)
   unfolding step-reads
   wrote_value (undecoded x k e r b) i p s d n q ok = absurd (op≢bad (sym q))
-  wrote_value (decoded v x o next hv r (refused e h)) i p s d n q ok = absurd (omega (arith, ok))
-  wrote_value (decoded v x o next hv r (nospc h l)) i p s d n q ok = absurd (omega (arith, ok))
-  wrote_value (decoded v x o next hv r (done h l)) i p s d n q ok = (v, write-shown g bd x r v hv i p s d o (op_inj q) h)
+  wrote_value (decoded v x o next hv r h) i p s d n q ok = go v h hv q ok
+    where
+      go : (u : List ℕ) {w : Event} (h : Performed (config g u) x o next w) (hu : length u ≡ 8) → w.item ≡ op (WRITE i p s d) n → w.status ≡ 0
+          → (v : List ℕ) × ((step-reads g bd (decoded u x o next hu r h)).body ≡ written (length d) file_sync v)
+      go u (refused e h) hu q ok = absurd (omega (arith, ok))
+      go u (nospc h l) hu q ok = absurd (omega (arith, ok))
+      go u (done h l) hu q ok = (u, write-shown g bd x r u hu i p s d o (op_inj q) h)
 
   reads-written : {w : Event} {r : Result} (p s : ℕ) (d : List ℕ) {n : ℕ} → w.item ≡ op (WRITE zero_id p s d) n → w.status ≡ 0 → Own (w, r) → ReadsWritten (length d) r
   reads-written p s d {n} q ok (t, e) =

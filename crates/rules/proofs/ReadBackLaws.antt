@@ -1,6 +1,6 @@
 -- Reading a reply: results one after the other to the last byte; and the results of the operations reached, read in the reply that has them.
 use Prim.Native.Nat.{ℕ, zero, suc, ◌+◌, ◌^◌, ◌≤◌, ◌<◌, max}
-use mathlib.Core.Path.{◌≡◌, refl, sym, ap, ◌∙◌}
+use mathlib.Core.Path.{◌≡◌, refl, sym, ap, ◌∙◌, subst}
 use mathlib.Core.Bool.{Bool, true, false, cond, ◌&&◌}
 use mathlib.Core.List.{List, [], ◌∷◌, ◌++◌}
 use mathlib.Core.Logic.{◌≢◌, ◌⊎◌, inl, inr}
@@ -218,10 +218,10 @@ ran-follow c (o ∷ os) at x rs same =
     pick z i zero st [] k ih = absurd k
     pick z i (suc e) st [] k ih = absurd k
     pick z i zero st (q ∷ qs) k ih =
-        and_both (eqb q.number (op_number o)) _ (eq-eqb q.number (op_number o) (k.0.number ∙ ap item_number i)) (rw st (ih z.after qs k.1))
+        and_both (eqb q.number (op_number o)) _ (eq-eqb q.number (op_number o) (k.0.number ∙ ap item_number i)) (subst (λ (n : ℕ). follow (eqb (last_status n (reached c z.after rest)) 0) (op_numbers os) qs ≡ true) (sym st) (ih z.after qs k.1))
     pick z i (suc e) st (q ∷ []) k ih =
         and_both (eqb q.number (op_number o)) _ (eq-eqb q.number (op_number o) (k.0.number ∙ ap item_number i))
-        (rw (st, ne_eqb (suc e) 0 (λ (h : suc e ≡ 0). omega arith)) (cut (op_numbers os)))
+        (subst (λ (n : ℕ). follow (eqb n 0) (op_numbers os) [] ≡ true) (sym st) (rw (ne_eqb (suc e) 0 (λ (h : suc e ≡ 0). omega arith)) (cut (op_numbers os))))
     pick z i (suc e) st (q ∷ p ∷ qs) k ih = absurd k.1
 
     go : (z : Event) → z.item ≡ op o (at + length (op_bytes o)) → (qs : List Result)

@@ -1,6 +1,8 @@
 // The calls for a front end: server.h has their C declarations. Each hands its arguments to the call below it.
+#![tactic(auto)]
+
 ghost use Rattle.std.specs.Prelude.{◌≡◌};
-ghost use Rattle.tables.specs.Lent.{geometry_of, after, before};
+ghost use Rattle.tables.specs.Lent.{geometry_of, tables};
 ghost use Rattle.rules.specs.Run.{config};
 ghost use Rattle.rules.specs.Lists.{bit};
 ghost use Rattle.rules.specs.Calls.{MakePromise};
@@ -32,8 +34,8 @@ pub extern "C" fn store_make_empty(
     mem: &mut [u8],
 ) -> u32
     ensures { MakePromise (record { F = files; S = slots; N = blocks; B = block_size })
-        (before sizes words mem) result
-        (after sizes words mem) }
+        (tables sizes.old words.old mem.old) result
+        (tables sizes.new words.new mem.new) }
 {
     tables::make_empty(
         geometry(files, slots, blocks, block_size),
@@ -56,7 +58,7 @@ pub extern "C" fn store_survey(
     counts: &mut [u64; 2],
 ) -> u32
     ensures { SurveyedPromise (record { F = files; S = slots; N = blocks; B = block_size })
-        (before sizes words mem) result counts.new }
+        (tables sizes.now words.now mem.now) result counts.new }
 {
     let c = tables::survey(
         geometry(files, slots, blocks, block_size),
@@ -91,7 +93,7 @@ pub extern "C" fn store_slot_view<'a>(
     shown: &mut [u64; 3],
 ) -> u32
     ensures { ShownPromise (record { F = files; S = slots; N = blocks; B = block_size })
-        (before sizes words mem) page.now file slot result shown.new }
+        (tables sizes.now words.now mem.now) page.now file slot result shown.new }
 {
     let g = geometry(files, slots, blocks, block_size);
     let f = file as usize;
@@ -120,10 +122,10 @@ pub extern "C" fn compound_serve(
     told: &mut [u64; 3],
 ) -> u32
     ensures { ServePromise
-        (call (config (record { F = files; S = slots; N = blocks; B = block_size }) verifier.now) request reply)
-        (before sizes words mem)
+        (call (config (record { F = files; S = slots; N = blocks; B = block_size }) verifier.now) request.now reply.old)
+        (tables sizes.old words.old mem.old)
         result told.new reply.new
-        (after sizes words mem) }
+        (tables sizes.new words.new mem.new) }
 {
     let g = geometry(files, slots, blocks, block_size);
     let s = compound::serve(g, sizes, words, mem, verifier, request, reply);

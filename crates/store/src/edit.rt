@@ -1,14 +1,14 @@
 // An edit as a value. WRITE's data stands beside it.
 
 // Where the bytes of a COPY or a CLONE come from: the places of a file from `off` on.
-#[derive(Drop)]
+#[derive(Clone, Copy)]
 pub struct Source {
     pub file: usize,
     pub off: usize,
 }
 
 // What an edit does at the places of its region.
-#[derive(Drop)]
+#[derive(Clone, Copy)]
 pub enum Act {
     Write,
     Copy(Source),
@@ -18,7 +18,7 @@ pub enum Act {
 }
 
 // The file, the region, from `off` up to `end`, and what is done there.
-#[derive(Drop)]
+#[derive(Clone, Copy)]
 pub struct Edit {
     pub file: usize,
     pub off: usize,
@@ -27,7 +27,7 @@ pub struct Edit {
 }
 
 // What becomes of a slot of the region.
-#[derive(Drop)]
+#[derive(Clone, Copy)]
 pub enum Kind {
     // It gets an unshared block.
     Owns,
@@ -43,7 +43,7 @@ pub enum Kind {
 }
 
 // How the search for free blocks goes on after a slot.
-#[derive(Drop)]
+#[derive(Clone, Copy)]
 pub enum Search {
     // No block below this one is free.
     From(usize),

@@ -4,7 +4,7 @@ ghost use Rattle.rules.specs.Store.{good_geometry};
 ghost use Rattle.rules.specs.Edit.{slot_count, edited};
 ghost use Rattle.store.specs.EditPromises.{EditPromise};
 ghost use Rattle.store.specs.Edits.{Applies, edit_from};
-ghost use Rattle.tables.specs.Lent.{geometry_of, after, before, tables};
+ghost use Rattle.tables.specs.Lent.{geometry_of, tables};
 
 use crate::edit::Edit;
 use crate::fill::put_bytes;
@@ -42,10 +42,10 @@ pub fn apply(
     e: Edit,
     d: &[u8],
 ) -> bool
-    requires { Applies (geometry_of g) (tables sizes words mem) counts.old e d.now }
-    ensures { EditPromise (geometry_of g) (before sizes words mem)
-        (edited (geometry_of g) (before sizes words mem) (edit_from e d.now))
-        result (after sizes words mem) counts.new }
+    requires { Applies (geometry_of g) (tables sizes.old words.old mem.old) counts.old e d.now }
+    ensures { EditPromise (geometry_of g) (tables sizes.old words.old mem.old)
+        (edited (geometry_of g) (tables sizes.old words.old mem.old) (edit_from e d.now))
+        result (tables sizes.new words.new mem.new) counts.new }
 {
     if e.end <= e.off {
         return true;

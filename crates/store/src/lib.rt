@@ -1,4 +1,6 @@
 // The store: the edits and what is read.
+#![tactic(auto)]
+
 mod bytes;
 mod copy_bytes;
 mod edit;

@@ -2,6 +2,8 @@
 // numbers of `survey` (refusal, used, owed), and of slot 0 of file 0 the refusal, 'hole' or 'data', the length
 // shown, and if there are any the first four bytes and the last. A line whose first word is 'slot' has a name and
 // this of another slot. The tables are of F 2, S 4, N 4, B 512 unless the name says otherwise.
+#![tactic(auto)]
+
 use libc::STDOUT_FILENO;
 use tables::Geometry;
 

@@ -228,7 +228,7 @@ module _ (g : Geometry) (st : Store) (mem page : Lent) (f k : ℕ) {number start
     pub view-page : hole ≡ true → Shown page
     unfolding slot_view
     view-page h =
-        placed true h (rw (← p.number_is, none, kind-is, h)) (rw (page-start h) (ap (λ (n : ℕ). (page.ptr.0, n)) (sym (zero-add page.ptr.1))))
+        placed true h (rw (← p.number_is, none, kind-is, h)) (rw (page-start h) (ap (λ (n : ℕ). (page.ref_ptr.0, n)) (sym (zero-add page.ref_ptr.1))))
 
     -- as the code takes it: from `start` on, up to that plus B
     pub view-block : hole ≡ false → (r : Lent) → r.now ≡ take (start + g.B - start) (drop start st.mem) → r.ref_ptr ≡ place_of mem start → Shown r

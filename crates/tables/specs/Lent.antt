@@ -15,12 +15,6 @@ Lent = Bor (List ℕ)
 abbrev pub Held : Type 0
 Held = Both Lent Lent
 
--- the lent tables, sizes, words and memory: at one moment, at entry, at exit
-abbrev pub tables : Lent → Lent → Lent → Store
-tables s w m = record { sizes = s.now; words = w.now; mem = m.now }
-
-abbrev pub before : Held → Held → Held → Store
-before s w m = tables s.entry w.entry m.entry
-
-abbrev pub after : Held → Held → Held → Store
-after s w m = tables s.exit w.exit m.exit
+-- the lent tables, sizes, words and memory: what they hold at one moment
+abbrev pub tables : List ℕ → List ℕ → List ℕ → Store
+tables s w m = record { sizes = s; words = w; mem = m }

@@ -14,4 +14,4 @@ pub record PlacePromise (g : Geometry) (st : Store) (page : List ℕ) (f k numbe
 -- r is a part of the block memory, or of the zero page for a hole and on a refusal
 pub record ViewPromise (g : Geometry) (st : Store) (mem page : Lent) (f k : ℕ) (r : Lent) : Type 0 where
   pub bytes_are : r.now ≡ slot_view g st page.now f k
-  pub starts : r.ptr ≡ place_of (cond (slot_is_hole g st page.now f k) page mem) (slot_start g st page.now f k)
+  pub starts : r.ref_ptr ≡ place_of (cond (slot_is_hole g st page.now f k) page mem) (slot_start g st page.now f k)

@@ -2,7 +2,7 @@
 ghost use Rattle.std.specs.Prelude.{◌≡◌, ◌&&◌, ◌||◌, ◌+◌, ◌-◌, ◌*◌, ◌/◌, ◌<◌, ◌≤◌, length, get_or, eqb, ltb};
 ghost use Rattle.rules.specs.Lists.{all_to, ceil_div};
 ghost use Rattle.rules.specs.Store.{word_of, slot_byte, sound_file};
-ghost use Rattle.tables.specs.Lent.{geometry_of, before, tables};
+ghost use Rattle.tables.specs.Lent.{geometry_of, tables};
 ghost use Rattle.tables.specs.Tables.{FileKnown};
 
 use crate::geometry::Geometry;
@@ -68,8 +68,8 @@ pub fn slots_of(size: usize, b: usize) -> usize
 
 // Whether file f is sound. Of the block memory only the bytes past the size, in its last slot's block, are read.
 pub fn file_sound(g: Geometry, sizes: &[u64], words: &[u32], mem: &[u8], f: usize) -> bool
-    requires { FileKnown (geometry_of g) (tables sizes words mem) f }
-    ensures { result ≡ sound_file (geometry_of g) (before sizes words mem) f }
+    requires { FileKnown (geometry_of g) (tables sizes.now words.now mem.now) f }
+    ensures { result ≡ sound_file (geometry_of g) (tables sizes.now words.now mem.now) f }
 {
     let bytes = sizes[f];
     if ((g.slots * g.block_size) as u64) < bytes {

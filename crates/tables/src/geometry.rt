@@ -1,10 +1,10 @@
 // The geometry and the lengths of the lent tables.
 ghost use Rattle.std.specs.Prelude.{◌≡◌, true};
 ghost use Rattle.rules.specs.Store.{good_geometry, good_block_size, good_lengths};
-ghost use Rattle.tables.specs.Lent.{geometry_of, before};
+ghost use Rattle.tables.specs.Lent.{geometry_of, tables};
 
 // Files, slots per file, blocks in the pool, bytes of a block.
-#[derive(Drop)]
+#[derive(Clone, Copy)]
 pub struct Geometry {
     pub files: usize,
     pub slots: usize,
@@ -71,7 +71,7 @@ fn block_size_good(b: usize) -> bool
 // Whether the tables have the lengths of a geometry inside the limits.
 pub fn good_lengths(g: Geometry, sizes: &[u64], words: &[u32], mem: &[u8]) -> bool
     requires { good_geometry (geometry_of g) ≡ true }
-    ensures { result ≡ good_lengths (geometry_of g) (before sizes words mem) }
+    ensures { result ≡ good_lengths (geometry_of g) (tables sizes.now words.now mem.now) }
 {
     if sizes.len() != g.files {
         return false;

@@ -5,7 +5,7 @@ ghost use Rattle.rules.specs.Lists.{all_to, bit, count};
 ghost use Rattle.tables.specs.Groups.{group_at, of_sort, group_all};
 
 // What is asked of a number.
-#[derive(Drop)]
+#[derive(Clone, Copy)]
 pub enum Sort {
     AtMost(u32),
     Above(u32),
@@ -15,7 +15,7 @@ pub enum Sort {
     Unreserved,
 }
 
-#[derive(Drop)]
+#[derive(Clone, Copy)]
 pub struct Group {}
 
 impl Group {

@@ -1,5 +1,7 @@
 // The store's tables: geometry, slot words and the table of holders; the survey, a file's room, an empty store, and one slot
 // shown.
+#![tactic(auto)]
+
 mod files;
 mod geometry;
 mod groups;

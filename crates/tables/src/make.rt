@@ -1,6 +1,6 @@
 // Making an empty store.
 ghost use Rattle.std.specs.Prelude.{◌≡◌, length, replicate};
-ghost use Rattle.tables.specs.Lent.{geometry_of, after, before};
+ghost use Rattle.tables.specs.Lent.{geometry_of, tables};
 ghost use Rattle.rules.specs.Calls.{MakePromise};
 
 use crate::geometry::{Geometry, good_lengths};
@@ -29,8 +29,8 @@ fn zero_slots(dst: &mut [u32])
 // Zeroes every table, or answers a refusal and leaves them as they are.
 pub fn make_empty(g: Geometry, sizes: &mut [u64], words: &mut [u32], mem: &mut [u8]) -> u32
     ensures { MakePromise (geometry_of g)
-        (before sizes words mem) result
-        (after sizes words mem) }
+        (tables sizes.old words.old mem.old) result
+        (tables sizes.new words.new mem.new) }
 {
     if !g.good() {
         return Surveyed::GEOMETRY;

@@ -51,7 +51,7 @@ fn owed_each(words: &[u32], counts: &[u32]) -> usize
 }
 
 // Slots that were looked at, and how many of them owe a block.
-#[derive(Drop)]
+#[derive(Clone, Copy)]
 struct Owed {
     slots: usize,
     owed: usize,

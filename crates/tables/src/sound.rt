@@ -1,6 +1,6 @@
 // Whether a store is sound, and its used and owed blocks, by one table of holders.
 ghost use Rattle.std.specs.Prelude.{◌≡◌, false, ◌≤◌};
-ghost use Rattle.tables.specs.Lent.{geometry_of, before, tables};
+ghost use Rattle.tables.specs.Lent.{geometry_of, tables};
 ghost use Rattle.tables.specs.Tables.{Shaped};
 ghost use Rattle.rules.specs.Calls.{SurveyPromise};
 ghost use Rattle.tables.specs.Survey.{TableReady, TableFits, FileReady, FileTested, TableTested, TableJudged};
@@ -11,7 +11,7 @@ use crate::pool::{fits_of, owed_of, used_blocks};
 use crate::tally::scan_and_note;
 
 // A refusal with zero counts, or 0 with the counts.
-#[derive(Drop)]
+#[derive(Clone, Copy)]
 pub struct Surveyed {
     pub number: u32,
     pub used: usize,
@@ -39,7 +39,7 @@ impl Surveyed {
 
 // Whether slots and files pass the tests of a sound store but for the room; and if so, how many slots hold a block, and whether one
 // is reserved.
-#[derive(Drop)]
+#[derive(Clone, Copy)]
 struct Tested {
     pass: bool,
     held: usize,
@@ -67,8 +67,8 @@ fn test_file(
     counts: &mut [u32],
     f: usize,
 ) -> Tested
-    requires { FileReady (geometry_of g) (tables sizes words mem) counts.old f }
-    ensures { FileTested (geometry_of g) (before sizes words mem) counts.old f
+    requires { FileReady (geometry_of g) (tables sizes.now words.now mem.now) counts.old f }
+    ensures { FileTested (geometry_of g) (tables sizes.now words.now mem.now) counts.old f
         result.pass result.held result.reserved counts.new }
 {
     if ((g.slots * g.block_size) as u64) < sizes[f] {
@@ -93,8 +93,8 @@ fn test_file(
 // Tests tables that have their lengths, file by file. `counts` has a zero for each block; where they pass it is the table of
 // holders afterwards.
 fn test_tables(g: Geometry, sizes: &[u64], words: &[u32], mem: &[u8], counts: &mut [u32]) -> Tested
-    requires { TableReady (geometry_of g) (tables sizes words mem) counts.old }
-    ensures { TableTested (geometry_of g) (before sizes words mem)
+    requires { TableReady (geometry_of g) (tables sizes.now words.now mem.now) counts.old }
+    ensures { TableTested (geometry_of g) (tables sizes.now words.now mem.now)
         result.pass result.held result.reserved counts.new }
 {
     let mut held: usize = 0;
@@ -124,8 +124,8 @@ pub fn judge_tables(
     mem: &[u8],
     counts: &mut [u32],
 ) -> bool
-    requires { TableReady (geometry_of g) (tables sizes words mem) counts.old }
-    ensures { TableJudged (geometry_of g) (before sizes words mem) result counts.new }
+    requires { TableReady (geometry_of g) (tables sizes.now words.now mem.now) counts.old }
+    ensures { TableJudged (geometry_of g) (tables sizes.now words.now mem.now) result counts.new }
 {
     let t = test_tables(g, sizes, words, mem, counts);
     if !t.pass {
@@ -141,8 +141,8 @@ fn survey_tables(
     mem: &[u8],
     counts: &mut [u32],
 ) -> Surveyed
-    requires { TableReady (geometry_of g) (tables sizes words mem) counts.old }
-    ensures { SurveyPromise (geometry_of g) (before sizes words mem)
+    requires { TableReady (geometry_of g) (tables sizes.now words.now mem.now) counts.old }
+    ensures { SurveyPromise (geometry_of g) (tables sizes.now words.now mem.now)
         result.number result.used result.owed }
 {
     let t = test_tables(g, sizes, words, mem, counts);
@@ -163,8 +163,8 @@ fn survey_tables(
 
 // The same in a table of any length that has a number for each block.
 fn survey_in(g: Geometry, sizes: &[u64], words: &[u32], mem: &[u8], counts: &mut [u32]) -> Surveyed
-    requires { TableFits (geometry_of g) (tables sizes words mem) counts.old }
-    ensures { SurveyPromise (geometry_of g) (before sizes words mem)
+    requires { TableFits (geometry_of g) (tables sizes.now words.now mem.now) counts.old }
+    ensures { SurveyPromise (geometry_of g) (tables sizes.now words.now mem.now)
         result.number result.used result.owed }
 {
     let n = g.blocks;
@@ -173,8 +173,8 @@ fn survey_in(g: Geometry, sizes: &[u64], words: &[u32], mem: &[u8], counts: &mut
 
 // The same with a table of its own, which it only lends. A small table is cleared faster.
 fn survey_small(g: Geometry, sizes: &[u64], words: &[u32], mem: &[u8]) -> Surveyed
-    requires { Shaped (geometry_of g) (tables sizes words mem) × (g.blocks ≤ 256) }
-    ensures { SurveyPromise (geometry_of g) (before sizes words mem)
+    requires { Shaped (geometry_of g) (tables sizes.now words.now mem.now) × (g.blocks ≤ 256) }
+    ensures { SurveyPromise (geometry_of g) (tables sizes.now words.now mem.now)
         result.number result.used result.owed }
 {
     let mut counts = [0u32; Geometry::SMALL_POOL];
@@ -182,8 +182,8 @@ fn survey_small(g: Geometry, sizes: &[u64], words: &[u32], mem: &[u8]) -> Survey
 }
 
 fn survey_middle(g: Geometry, sizes: &[u64], words: &[u32], mem: &[u8]) -> Surveyed
-    requires { Shaped (geometry_of g) (tables sizes words mem) × (g.blocks ≤ 4096) }
-    ensures { SurveyPromise (geometry_of g) (before sizes words mem)
+    requires { Shaped (geometry_of g) (tables sizes.now words.now mem.now) × (g.blocks ≤ 4096) }
+    ensures { SurveyPromise (geometry_of g) (tables sizes.now words.now mem.now)
         result.number result.used result.owed }
 {
     let mut counts = [0u32; Geometry::MIDDLE_POOL];
@@ -191,8 +191,8 @@ fn survey_middle(g: Geometry, sizes: &[u64], words: &[u32], mem: &[u8]) -> Surve
 }
 
 fn survey_large(g: Geometry, sizes: &[u64], words: &[u32], mem: &[u8]) -> Surveyed
-    requires { Shaped (geometry_of g) (tables sizes words mem) × (g.blocks ≤ 65536) }
-    ensures { SurveyPromise (geometry_of g) (before sizes words mem)
+    requires { Shaped (geometry_of g) (tables sizes.now words.now mem.now) × (g.blocks ≤ 65536) }
+    ensures { SurveyPromise (geometry_of g) (tables sizes.now words.now mem.now)
         result.number result.used result.owed }
 {
     let mut counts = [0u32; Geometry::MAX_BLOCKS];
@@ -200,8 +200,8 @@ fn survey_large(g: Geometry, sizes: &[u64], words: &[u32], mem: &[u8]) -> Survey
 }
 
 fn survey_shaped(g: Geometry, sizes: &[u64], words: &[u32], mem: &[u8]) -> Surveyed
-    requires { Shaped (geometry_of g) (tables sizes words mem) }
-    ensures { SurveyPromise (geometry_of g) (before sizes words mem)
+    requires { Shaped (geometry_of g) (tables sizes.now words.now mem.now) }
+    ensures { SurveyPromise (geometry_of g) (tables sizes.now words.now mem.now)
         result.number result.used result.owed }
 {
     if g.blocks <= Geometry::SMALL_POOL {
@@ -215,7 +215,7 @@ fn survey_shaped(g: Geometry, sizes: &[u64], words: &[u32], mem: &[u8]) -> Surve
 
 // The refusal number, or 0 with the used and owed blocks.
 pub fn survey(g: Geometry, sizes: &[u64], words: &[u32], mem: &[u8]) -> Surveyed
-    ensures { SurveyPromise (geometry_of g) (before sizes words mem)
+    ensures { SurveyPromise (geometry_of g) (tables sizes.now words.now mem.now)
         result.number result.used result.owed }
 {
     if !g.good() {

@@ -11,7 +11,7 @@ use crate::tally::note_all;
 use crate::words::forget;
 
 // Slots that hold a block or are reserved; and blocks that no other slot holds, with the slots that owe one.
-#[derive(Drop)]
+#[derive(Clone, Copy)]
 pub struct Space {
     pub used: usize,
     pub freed: usize,

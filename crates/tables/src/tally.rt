@@ -8,7 +8,7 @@ use crate::groups::{Group, Sort, bit_of_sort, count_of_sort, group_at, of_sort};
 
 // What one pass tells of slot words: whether each names one of the blocks or none; and if so, how many hold a block, and whether one
 // is reserved.
-#[derive(Drop)]
+#[derive(Clone, Copy)]
 pub struct Scan {
     pub formed: bool,
     pub held: usize,
@@ -101,7 +101,7 @@ fn note_mixed(counts: &mut [u32], w: u32, own: usize)
 }
 
 // What is known of some slots: each holds a block, or nothing.
-#[derive(Drop)]
+#[derive(Clone, Copy)]
 pub enum Slots {
     Held,
     Mixed,

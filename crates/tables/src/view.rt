@@ -1,6 +1,6 @@
 // One slot shown without copying: its part of the block memory, or the zero page that the caller lends.
 ghost use Rattle.std.specs.Prelude.{◌≡◌};
-ghost use Rattle.tables.specs.Lent.{geometry_of, before};
+ghost use Rattle.tables.specs.Lent.{geometry_of, tables};
 ghost use Rattle.rules.specs.Calls.{slot_refusal, KindPromise};
 ghost use Rattle.tables.specs.View.{PlacePromise, ViewPromise};
 
@@ -9,14 +9,14 @@ use crate::geometry::Geometry;
 use crate::sound::{Surveyed, survey};
 
 // The refusal, and whether the slot is a hole.
-#[derive(Drop)]
+#[derive(Clone, Copy)]
 pub struct Kind {
     pub number: u32,
     pub hole: bool,
 }
 
 // That, and where the part starts: in the memory, or for a hole and on a refusal in the page.
-#[derive(Drop)]
+#[derive(Clone, Copy)]
 pub struct Place {
     pub number: u32,
     pub hole: bool,
@@ -37,7 +37,7 @@ fn slot_refusal(
     f: usize,
     k: usize,
 ) -> u32
-    ensures { result ≡ slot_refusal (geometry_of g) (before sizes words mem) page.now f k }
+    ensures { result ≡ slot_refusal (geometry_of g) (tables sizes.now words.now mem.now) page.now f k }
 {
     let number = survey(g, sizes, words, mem).number;
     if number == Surveyed::GEOMETRY {
@@ -74,7 +74,7 @@ pub fn slot_place(
     f: usize,
     k: usize,
 ) -> Place
-    ensures { PlacePromise (geometry_of g) (before sizes words mem) page.now f k result.number result.hole result.start }
+    ensures { PlacePromise (geometry_of g) (tables sizes.now words.now mem.now) page.now f k result.number result.hole result.start }
 {
     let number = slot_refusal(g, sizes, words, mem, page, f, k);
     if number != 0 {
@@ -108,7 +108,7 @@ pub fn slot_kind(
     f: usize,
     k: usize,
 ) -> Kind
-    ensures { KindPromise (geometry_of g) (before sizes words mem) page.now f k result.number result.hole }
+    ensures { KindPromise (geometry_of g) (tables sizes.now words.now mem.now) page.now f k result.number result.hole }
 {
     let p = slot_place(g, sizes, words, mem, page, f, k);
     Kind {
@@ -126,7 +126,7 @@ pub fn slot_view<'a>(
     f: usize,
     k: usize,
 ) -> &'a [u8]
-    ensures { ViewPromise (geometry_of g) (before sizes words mem) mem.entry page.entry f k result }
+    ensures { ViewPromise (geometry_of g) (tables sizes.now words.now mem.now) mem.entry page.entry f k result }
 {
     let p = slot_place(g, sizes, words, mem, page, f, k);
     if p.number != 0 {

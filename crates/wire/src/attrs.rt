@@ -10,7 +10,7 @@ ghost use Rattle.wire.specs.Attrs.{asks, AsksAs, attrs_of, bitmap_bytes, value_b
 use xdr::{Cursor, Span, Word};
 
 // The attributes that are asked for.
-#[derive(Drop)]
+#[derive(Clone, Copy)]
 pub struct Asked {
     pub supported_attrs: bool,
     pub size: bool,
@@ -20,7 +20,7 @@ pub struct Asked {
 }
 
 // What a file's attributes say; the value of supported_attrs is the same for all files.
-#[derive(Drop)]
+#[derive(Clone, Copy)]
 pub struct FileAttrs {
     pub size: u64,
     pub space_used: u64,

@@ -11,44 +11,44 @@ use xdr::{Bytes, Cursor, Long, Span, Word};
 
 // What a reader of arguments finds: the arguments and the place after them, or the place of the fault. Stateid and offset are
 // the first of READ's, WRITE's and ALLOCATE's.
-#[derive(Drop)]
+#[derive(Clone, Copy)]
 pub enum StartAnswer {
     Found(Span, u64, Cursor),
     Fault(usize),
 }
 
-#[derive(Drop)]
+#[derive(Clone, Copy)]
 pub enum ReadAnswer {
     Found(ReadArgs, Cursor),
     Fault(usize),
 }
 
-#[derive(Drop)]
+#[derive(Clone, Copy)]
 pub enum WriteAnswer {
     Found(WriteArgs, Cursor),
     Fault(usize),
 }
 
-#[derive(Drop)]
+#[derive(Clone, Copy)]
 pub enum RegionAnswer {
     Found(RegionArgs, Cursor),
     Fault(usize),
 }
 
-#[derive(Drop)]
+#[derive(Clone, Copy)]
 pub enum CloneAnswer {
     Found(CloneArgs, Cursor),
     Fault(usize),
 }
 
 // The number says how many source servers follow; they are not read.
-#[derive(Drop)]
+#[derive(Clone, Copy)]
 pub enum CopyAnswer {
     Found(CopyArgs, u32, Cursor),
     Fault(usize),
 }
 
-#[derive(Drop)]
+#[derive(Clone, Copy)]
 pub enum HeaderRead {
     Found(Header),
     Fault(usize),

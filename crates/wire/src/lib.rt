@@ -1,4 +1,6 @@
 // Operations and results as bytes: the decoded operation, the readers of a request, the layouts of results. It knows no store.
+#![tactic(auto)]
+
 mod attrs;
 mod bytes;
 mod decode;

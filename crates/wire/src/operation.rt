@@ -6,7 +6,7 @@ ghost use Rattle.wire.specs.Decoded.{meaning};
 use xdr::{Cursor, Span};
 
 // The header as read. The first operation stands at `next`.
-#[derive(Drop)]
+#[derive(Clone, Copy)]
 pub struct Header {
     pub tag: Span,
     pub minor: u32,
@@ -15,14 +15,14 @@ pub struct Header {
 }
 
 // Of READ and READ_PLUS; of SEEK too, where `count` is the kind that is asked for.
-#[derive(Drop)]
+#[derive(Clone, Copy)]
 pub struct ReadArgs {
     pub stateid: Span,
     pub offset: u64,
     pub count: u32,
 }
 
-#[derive(Drop)]
+#[derive(Clone, Copy)]
 pub struct WriteArgs {
     pub stateid: Span,
     pub offset: u64,
@@ -31,14 +31,14 @@ pub struct WriteArgs {
 }
 
 // Of ALLOCATE and DEALLOCATE.
-#[derive(Drop)]
+#[derive(Clone, Copy)]
 pub struct RegionArgs {
     pub stateid: Span,
     pub offset: u64,
     pub length: u64,
 }
 
-#[derive(Drop)]
+#[derive(Clone, Copy)]
 pub struct CloneArgs {
     pub source: Span,
     pub target: Span,
@@ -48,7 +48,7 @@ pub struct CloneArgs {
 }
 
 // Of a COPY with no source server. The two booleans are 0 or 1.
-#[derive(Drop)]
+#[derive(Clone, Copy)]
 pub struct CopyArgs {
     pub clone: CloneArgs,
     pub consecutive: u32,
@@ -56,7 +56,7 @@ pub struct CopyArgs {
 }
 
 // GETATTR's span has the words of its bitmap, PUTFH's the handle.
-#[derive(Drop)]
+#[derive(Clone, Copy)]
 pub enum Operation {
     GetAttr(Span),
     GetFh,
@@ -160,7 +160,7 @@ impl Operation {
 
 // What stands at a place of the request: an operation and the place after it; or the number and the status of the result that
 // ends the compound; or, where that is BADXDR, its number and the place of the fault.
-#[derive(Drop)]
+#[derive(Clone, Copy)]
 pub enum Item {
     Op(Operation, Cursor),
     Bad(u32, u32),

@@ -6,7 +6,7 @@ use Rattle.xdr.specs.Bytes.{part_of}
 
 -- the place of byte n of a lent slice
 abbrev pub place_of : Bor (List ℕ) → ℕ → ℕ × ℕ
-place_of s n = (s.ptr.0, n + s.ptr.1)
+place_of s n = (s.ref_ptr.0, n + s.ref_ptr.1)
 
 -- where the part of a span starts: with the span, or with the slice where that ends before it
 abbrev pub part_start : List ℕ → Span → ℕ

@@ -1,4 +1,6 @@
 // XDR (RFC 4506): numbers, booleans, opaque data and arrays of numbers, read from and written to bytes.
+#![tactic(auto)]
+
 mod bytes;
 mod read;
 mod write;

@@ -8,24 +8,24 @@ use crate::bytes::Span;
 use crate::write::padding;
 
 // The place of the next byte to read.
-#[derive(Drop)]
+#[derive(Clone, Copy)]
 pub struct Cursor {
     pub at: usize,
 }
 
-#[derive(Drop)]
+#[derive(Clone, Copy)]
 pub enum Word {
     Value(u32, Cursor),
     Fault(usize),
 }
 
-#[derive(Drop)]
+#[derive(Clone, Copy)]
 pub enum Long {
     Value(u64, Cursor),
     Fault(usize),
 }
 
-#[derive(Drop)]
+#[derive(Clone, Copy)]
 pub enum Bytes {
     Found(Span, Cursor),
     Fault(usize),

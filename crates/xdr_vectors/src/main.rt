@@ -1,5 +1,7 @@
 // Runs XDR vectors through the readers and writers. A line of output says what was read and the place after it, or
 // 'fault' and its place. The expected output is worked out by hand from RFC 4506, whose section 7 has the file.
+#![tactic(auto)]
+
 ghost use Rattle.std.specs.Prelude.{◌≡◌, length};
 
 use libc::STDOUT_FILENO;

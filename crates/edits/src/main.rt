@@ -10,7 +10,8 @@ ghost use Rattle.std.specs.Prelude.{◌≤◌, length};
 
 use compound::Served;
 use frame::Request;
-use libc::{STDIN_FILENO, STDOUT_FILENO};
+use std::io;
+use std::io::{Read, Write};
 use tables::Geometry;
 use xdr::{Cursor, Word};
 
@@ -33,26 +34,32 @@ impl State {
     const ANSWER: usize = 65536;
 }
 
-fn say(text: &[u8]) {
-    io::write_all(STDOUT_FILENO, text);
+fn say<W: Write>(to: &mut W, text: &[u8]) -> io::Result<()> {
+    to.write_all(text)
 }
 
-fn say_number(n: u64) {
-    io::print_decimal(STDOUT_FILENO, n);
+fn say_number<W: Write>(to: &mut W, n: u64) -> io::Result<()> {
+    write!(to, "{n}")
 }
 
 // The first n bytes, or all of them.
-fn say_front(text: &[u8], n: usize) {
-    say(xdr::part(text, xdr::Span { start: 0, len: n }));
+fn say_front<W: Write>(to: &mut W, text: &[u8], n: usize) -> io::Result<()> {
+    say(to, xdr::part(text, xdr::Span { start: 0, len: n }))
 }
 
-fn say_counts(g: Geometry, sizes: &[u64], words: &[u32], mem: &[u8]) {
+fn say_counts<W: Write>(
+    to: &mut W,
+    g: Geometry,
+    sizes: &[u64],
+    words: &[u32],
+    mem: &[u8],
+) -> io::Result<()> {
     let c = tables::survey(g, sizes, words, mem);
-    say(b" ");
-    say_number(c.used as u64);
-    say(b" ");
-    say_number(c.owed as u64);
-    say(b"\n");
+    say(to, b" ")?;
+    say_number(to, c.used as u64)?;
+    say(to, b" ")?;
+    say_number(to, c.owed as u64)?;
+    say(to, b"\n")
 }
 
 fn put_number(number: u32, text: &mut [u8]) -> usize {
@@ -104,7 +111,14 @@ fn serve_line(
     put_reply(r, reply, text)
 }
 
-fn serve(g: Geometry, sizes: &mut [u64], words: &mut [u32], mem: &mut [u8], line: &[u8]) {
+fn serve<W: Write>(
+    to: &mut W,
+    g: Geometry,
+    sizes: &mut [u64],
+    words: &mut [u32],
+    mem: &mut [u8],
+    line: &[u8],
+) -> io::Result<()> {
     let mut request = [0u8; Request::MAX_BYTES];
     let mut reply = [0u8; Served::MIN_REPLY];
     let mut text = [0u8; State::ANSWER];
@@ -118,22 +132,29 @@ fn serve(g: Geometry, sizes: &mut [u64], words: &mut [u32], mem: &mut [u8], line
         &mut reply,
         &mut text,
     );
-    say_front(&text, n);
-    say_counts(g, sizes, words, mem);
+    say_front(to, &text, n)?;
+    say_counts(to, g, sizes, words, mem)
 }
 
 // Makes an empty store. Answers whether it is made.
-fn make(g: Geometry, sizes: &mut [u64], words: &mut [u32], mem: &mut [u8], line: &[u8]) -> bool {
+fn make<W: Write>(
+    to: &mut W,
+    g: Geometry,
+    sizes: &mut [u64],
+    words: &mut [u32],
+    mem: &mut [u8],
+    line: &[u8],
+) -> io::Result<bool> {
     let number = tables::make_empty(g, sizes, words, mem);
     if number != 0 {
-        say(b"-");
-        say_number(number as u64);
-        say(b"\n");
-        return false;
+        say(to, b"-")?;
+        say_number(to, number as u64)?;
+        say(to, b"\n")?;
+        return Ok(false);
     }
-    say(line);
-    say(b"\n");
-    true
+    say(to, line)?;
+    say(to, b"\n")?;
+    Ok(true)
 }
 
 // A product of two numbers of four hexadecimal digits; the largest number of all where a factor has more.
@@ -147,49 +168,52 @@ fn product(a: usize, b: usize) -> usize {
     a * b
 }
 
-fn too_large() -> bool {
-    say(b"too large\n");
-    false
+fn too_large<W: Write>(to: &mut W) -> io::Result<bool> {
+    say(to, b"too large\n")?;
+    Ok(false)
 }
 
 // Makes a store or serves on it. Answers whether it was done.
-fn act(
+fn act<W: Write>(
+    to: &mut W,
     g: Geometry,
     making: bool,
     sizes: &mut [u64],
     words: &mut [u32],
     mem: &mut [u8],
     line: &[u8],
-) -> bool {
+) -> io::Result<bool> {
     if making {
-        return make(g, sizes, words, mem, line);
+        return make(to, g, sizes, words, mem, line);
     }
-    serve(g, sizes, words, mem, line);
-    true
+    serve(to, g, sizes, words, mem, line)?;
+    Ok(true)
 }
 
 // The same in the part of the tables that the geometry takes, if they hold it.
-fn act_in(
+fn act_in<W: Write>(
+    to: &mut W,
     g: Geometry,
     making: bool,
     sizes: &mut [u64],
     words: &mut [u32],
     mem: &mut [u8],
     line: &[u8],
-) -> bool {
+) -> io::Result<bool> {
     let f = g.files;
     let w = product(g.files, g.slots);
     let m = product(g.blocks, g.block_size);
     if sizes.len() < f {
-        return too_large();
+        return too_large(to);
     }
     if words.len() < w {
-        return too_large();
+        return too_large(to);
     }
     if mem.len() < m {
-        return too_large();
+        return too_large(to);
     }
     act(
+        to,
         g,
         making,
         &mut sizes[..f],
@@ -233,102 +257,112 @@ fn geometry_from(line: &[u8]) -> Geometry {
 }
 
 // Answers a line. The result is the geometry from then on.
-fn answer(
+fn answer<W: Write>(
+    to: &mut W,
     g: Geometry,
     sizes: &mut [u64],
     words: &mut [u32],
     mem: &mut [u8],
     line: &[u8],
-) -> Geometry {
+) -> io::Result<Geometry> {
     if line.len() == 0 {
-        act_in(g, false, sizes, words, mem, line);
-        return g;
+        act_in(to, g, false, sizes, words, mem, line)?;
+        return Ok(g);
     }
     if line[0] != b'=' {
-        act_in(g, false, sizes, words, mem, line);
-        return g;
+        act_in(to, g, false, sizes, words, mem, line)?;
+        return Ok(g);
     }
     let asked = geometry_from(line);
-    if act_in(asked, true, sizes, words, mem, line) {
-        return asked;
+    if act_in(to, asked, true, sizes, words, mem, line)? {
+        return Ok(asked);
     }
-    g
+    Ok(g)
 }
 
 // A byte of the input: one more of the line, or its end. A line too long for a compound loses its tail.
-fn take_byte(
+fn take_byte<W: Write>(
+    to: &mut W,
     s: State,
     b: u8,
     line: &mut [u8],
     sizes: &mut [u64],
     words: &mut [u32],
     mem: &mut [u8],
-) -> State {
+) -> io::Result<State> {
     let g = s.g;
     let n = s.length;
     if b == b'\n' {
         let whole = xdr::part(line, xdr::Span { start: 0, len: n });
-        let next = answer(g, sizes, words, mem, whole);
-        return State {
+        let next = answer(to, g, sizes, words, mem, whole)?;
+        return Ok(State {
             g: next,
             length: 0,
             more: true,
-        };
+        });
     }
     if line.len() <= n {
-        return s;
+        return Ok(s);
     }
     line[n] = b;
-    State {
+    Ok(State {
         g,
         length: n + 1,
         more: true,
-    }
+    })
 }
 
-fn take_bytes(
+fn take_bytes<W: Write>(
+    to: &mut W,
     s: State,
     bytes: &[u8],
     line: &mut [u8],
     sizes: &mut [u64],
     words: &mut [u32],
     mem: &mut [u8],
-) -> State {
+) -> io::Result<State> {
     let mut s = s;
-    let mut i = 0;
-    while i < bytes.len() {
-        s = take_byte(s, bytes[i], line, sizes, words, mem);
-        i += 1;
+    for b in bytes {
+        s = take_byte(to, s, *b, line, sizes, words, mem)?;
     }
-    s
+    Ok(s)
 }
 
 // What one read brings. At the end of the input the line begun is whole.
-fn take_some(
+fn take_some<R: Read, W: Write>(
+    from: &mut R,
+    to: &mut W,
     s: State,
     line: &mut [u8],
     sizes: &mut [u64],
     words: &mut [u32],
     mem: &mut [u8],
-) -> State {
-    let mut chunk = io::large_buffer();
-    let n = io::count(libc::read(STDIN_FILENO, &mut chunk), &chunk);
+) -> io::Result<State> {
+    let mut chunk = [0u8; 65536];
+    let n = from.read(&mut chunk)?;
     if n != 0 {
-        return take_bytes(s, &chunk[..n], line, sizes, words, mem);
+        return take_bytes(to, s, &chunk[..n], line, sizes, words, mem);
     }
     let g = s.g;
     if s.length != 0 {
-        take_byte(s, b'\n', line, sizes, words, mem);
+        take_byte(to, s, b'\n', line, sizes, words, mem)?;
     }
-    State {
+    Ok(State {
         g,
         length: 0,
         more: false,
-    }
+    })
 }
 
 // The turns are counted down from a number that no run uses up, so that the loop ends.
-fn take_all(line: &mut [u8], sizes: &mut [u64], words: &mut [u32], mem: &mut [u8]) {
+fn take_all<R: Read, W: Write>(
+    from: &mut R,
+    to: &mut W,
+    line: &mut [u8],
+    sizes: &mut [u64],
+    words: &mut [u32],
+    mem: &mut [u8],
+) -> io::Result<()> {
     let mut s = State {
         g: Geometry {
             files: 4,
@@ -341,16 +375,24 @@ fn take_all(line: &mut [u8], sizes: &mut [u64], words: &mut [u32], mem: &mut [u8
     };
     let mut turns = u64::MAX;
     while turns > 0 && s.more {
-        s = take_some(s, line, sizes, words, mem);
+        s = take_some(from, to, s, line, sizes, words, mem)?;
         turns -= 1;
     }
+    Ok(())
 }
 
 // The line has one digit more than a compound may have.
-fn main() {
+fn main(rt: HostRuntime) -> io::Result<()> {
     let mut line = [0u8; Request::KEPT];
     let mut sizes = [0u64; State::SIZES];
     let mut words = [0u32; State::WORDS];
     let mut mem = [0u8; State::MEMORY];
-    take_all(&mut line, &mut sizes, &mut words, &mut mem);
+    take_all(
+        &mut rt.stdin(),
+        &mut rt.stdout(),
+        &mut line,
+        &mut sizes,
+        &mut words,
+        &mut mem,
+    )
 }

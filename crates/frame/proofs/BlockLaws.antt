@@ -10,7 +10,7 @@ use lib.ListN.{length, get_or, take, drop, replicate, length-replicate, length-t
 use lib.Seq.{drop-cons, take-add, drop-drop, length-take-le, take-length}
 use lib.Dec.{eqb}
 use borrow.Author.Tests.{eqb-true}
-use Rattle.bytes.specs.Bytes.{slice, index_after, index_of}
+use Rattle.frame.specs.Lines.{slice, index_after, index_of}
 use Rattle.frame.specs.Blocks.{mismatch, mismatches, Same, Plain}
 
 -- ---- in how many places two lists differ

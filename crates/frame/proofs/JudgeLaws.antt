@@ -7,7 +7,7 @@ use mathlib.Core.List.{List, [], ◌∷◌}
 use native.Mathlib.Omega.{arith}
 use lib.ListN.{length, take, drop, length-drop, drop_of_length-le}
 use lib.Seq.{drop_at, take-add, length-take-le}
-use Rattle.bytes.specs.Bytes.{slice, index_of}
+use Rattle.frame.specs.Lines.{slice, index_of}
 use Rattle.xdr.proofs.BoolLaws.{and_left, and_right, and_both, and_false}
 use lib.Dec.{leb, ltb, eqb}
 use borrow.Author.Tests.{lt-ltb, le-ltb, le-leb, lt-leb, leb-true, ne_eqb}

@@ -10,7 +10,7 @@ use lib.Seq.{length-take-le, take-length, take_at, drop_at, drop-drop}
 use lib.Dec.{ltb}
 use borrow.Author.Tests.{lt-ltb, le-ltb, ltb-true, ltb-false, eq-eqb, ne_eqb}
 use borrow.Rule.Slice.PartMut as P
-use Rattle.bytes.specs.Bytes.{slice, index_of}
+use Rattle.frame.specs.Lines.{slice, index_of}
 use Rattle.xdr.specs.Bytes.{splice, Written}
 use Rattle.xdr.proofs.BytesLaws.{length-splice, written_then}
 use Rattle.rules.specs.Store.{Store}

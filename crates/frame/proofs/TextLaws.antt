@@ -10,9 +10,10 @@ use lib.Seq.{take_all, take-length, take-append-add, take_at, length-take-le, dr
 use lib.Dec.{ltb, eqb, leb-suc-suc}
 use borrow.Author.Tests.{lt-ltb, le-ltb, ltb-true, ltb-false}
 use borrow.Rule.Slice.PartMut as P
+use Rattle.xdr.specs.Bytes.{splice}
 use Rattle.rules.specs.Store.{Store}
 use Rattle.rules.specs.Line.{line_bytes, request_of, refusal_line, answer_request, answer_line}
-use Rattle.bytes.specs.Bytes.{slice, index_after, index_of}
+use Rattle.frame.specs.Lines.{slice, index_after, index_of}
 use Rattle.frame.specs.Text.{Part, part, in_front, parts_of, each_part}
 use Rattle.frame.specs.Reading.{keep, Kept}
 
@@ -116,11 +117,10 @@ take_min n l = go (ltb n (length l)) refl
         ap (λ (m : ℕ). take m l) e ∙ take-length l ∙ sym (take_all n l (ltb-false n (length l) b))
 
 -- n more characters are stored behind those kept
-pub keep-more : (line t last : List ℕ) {kept n : ℕ} → kept ≤ 8193 → 8193 ≤ length line → n ≡ min (8193 - kept) (length t)
-    → last ≡ take (length (take n t)) (take n t) ++ drop (length (take n t)) (P.mid_of kept (length line - kept) line)
-    → Kept (take kept line) t (kept + n) (P.put_mid kept (length line - kept) line last)
-unfolding keep
-keep-more line t last {kept} {n} h k e q = record { kept_is = stored ∙ sym wanted; few = omega arith }
+pub keep-more : (line t after : List ℕ) {kept n : ℕ} → kept ≤ 8193 → 8193 ≤ length line → n ≡ min (8193 - kept) (length t)
+    → after ≡ splice line kept (take n t) → Kept (take kept line) t (kept + n) after
+unfolding keep splice
+keep-more line t after {kept} {n} h k e q = record { kept_is = stored ∙ sym wanted; few = omega arith }
   where
     front : length (take kept line) ≡ kept
     front = length-take-le kept line (omega arith)
@@ -128,12 +128,11 @@ keep-more line t last {kept} {n} h k e q = record { kept_is = stored ∙ sym wan
     many : length (take n t) ≡ n
     many = length-take-le n t (omega arith)
 
-    stored : take (kept + n) (P.put_mid kept (length line - kept) line last) ≡ take kept line ++ take n t
+    stored : take (kept + n) after ≡ take kept line ++ take n t
     stored =
-        ap (λ (m : ℕ). take (m + n) (P.put_mid kept (length line - kept) line last)) (sym front)
-        ∙ take-append-add (take kept line) (last ++ P.post_of kept (length line - kept) line) n
-        ∙ ap (λ (l : List ℕ). take kept line ++ take n (l ++ P.post_of kept (length line - kept) line)) (q ∙ ap (λ (l : List ℕ). l ++ drop (length (take n t)) (P.mid_of kept (length line - kept) line)) (take-length (take n t)))
-        ∙ ap (λ (l : List ℕ). take kept line ++ take n l) (append_assoc (take n t) (drop (length (take n t)) (P.mid_of kept (length line - kept) line)) (P.post_of kept (length line - kept) line))
+        ap (take (kept + n)) q
+        ∙ ap (λ (m : ℕ). take (m + n) (splice line kept (take n t))) (sym front)
+        ∙ take-append-add (take kept line) (take n t ++ drop (kept + length (take n t)) line) n
         ∙ ap (λ (l : List ℕ). take kept line ++ l) (take_at (take n t) _ n many)
 
     wanted : take 8193 (take kept line ++ t) ≡ take kept line ++ take n t

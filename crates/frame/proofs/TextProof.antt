@@ -10,7 +10,7 @@ use lib.Seq.{drop-nil, drop-drop, length-take-le, take_all}
 use lib.Dec.{ltb, eqb}
 use borrow.Author.Tests.{le-ltb, ltb-true, ltb-false, ne_eqb}
 use Rattle.xdr.specs.Encode.{concat_map}
-use Rattle.bytes.specs.Bytes.{index_after, index_of}
+use Rattle.frame.specs.Lines.{index_after, index_of}
 use Rattle.rules.specs.Store.{Store}
 use Rattle.rules.specs.Line.{Line, answer_line, answer_lines}
 use Rattle.frame.specs.declared.text.Progress.{Progress}

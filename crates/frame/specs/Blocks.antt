@@ -1,6 +1,6 @@
 -- Characters compared in blocks. Contracts cite these.
 use Rattle.std.specs.Prelude.{ℕ, ◌+◌, ◌-◌, ◌≤◌, ◌≡◌, cond, List, [], ◌∷◌, length, take, drop, eqb}
-use Rattle.bytes.specs.Bytes.{index_of}
+use Rattle.frame.specs.Lines.{index_of}
 
 abbrev pub mismatch : ℕ → ℕ → ℕ
 mismatch a b = cond (eqb a b) 0 1

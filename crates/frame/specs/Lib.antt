@@ -2,6 +2,7 @@ pub mod Blocks
 pub mod Hex
 pub mod Judging
 pub mod LineCall
+pub mod Lines
 pub mod Printing
 pub mod Reading
 pub mod Recording

@@ -1,7 +1,7 @@
 // Long lines in blocks: how far two are the same as they stand, and how far no newline stands in a text. A block is looked at
 // whole, with no way out of its loop, so that many characters are compared at a time.
 ghost use Rattle.std.specs.Prelude.{◌≡◌, ◌+◌, ◌≤◌, length, replicate};
-ghost use Rattle.bytes.specs.Bytes.{slice, index_of};
+ghost use Rattle.frame.specs.Lines.{slice, index_of};
 ghost use Rattle.frame.specs.Blocks.{mismatch as Blocks·mismatch, mismatches as Blocks·mismatches, Same, Plain};
 
 #[derive(Clone, Copy)]
@@ -88,6 +88,22 @@ fn plain_blocks(text: &[u8], newlines: &[u8], from: usize) -> usize
     i
 }
 
+// The place of the first `byte` from `from` on, or `to` where there is none before it.
+fn find(text: &[u8], from: usize, to: usize, byte: u8) -> usize
+    requires { (from ≤ to) × (to ≤ length text.now) }
+    ensures value { result ≡ from + index_of byte (slice from to text.now) }
+    ensures upper_bound { result ≤ to }
+{
+    let mut at = from;
+    while at < to {
+        if text[at] == byte {
+            return at;
+        }
+        at += 1;
+    }
+    at
+}
+
 // The place of the first newline from `from` on, or the end of the text.
 pub fn line_end(text: &[u8], from: usize) -> usize
     requires { from ≤ length text.now }
@@ -96,5 +112,5 @@ pub fn line_end(text: &[u8], from: usize) -> usize
 {
     let newlines = [b'\n'; Block::SIZE];
     let at = plain_blocks(text, &newlines, from);
-    bytes::scan::find(text, at, text.len(), b'\n')
+    find(text, at, text.len(), b'\n')
 }

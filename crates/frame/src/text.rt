@@ -54,7 +54,7 @@ pub fn keep(line: &mut [u8], kept: usize, part: &[u8]) -> usize
     ensures { Kept (take kept line.old) part.now result line.new }
 {
     let n = least(Request::KEPT - kept, part.len());
-    bytes::copy(&part[..n], &mut line[kept..]);
+    xdr::put_bytes(line, kept, &part[..n]);
     kept + n
 }
 

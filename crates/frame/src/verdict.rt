@@ -10,8 +10,7 @@ fn put_text(text: &[u8], out: &mut [u8], at: usize) -> usize
     requires { at + length text.now ≤ length out.old }
     ensures { Written text.now (length text.now) at out.old out.new result }
 {
-    bytes::copy(text, &mut out[at..]);
-    at + text.len()
+    xdr::put_bytes(out, at, text)
 }
 
 fn put_number(n: u64, out: &mut [u8], at: usize) -> usize

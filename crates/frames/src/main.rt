@@ -2,12 +2,13 @@
 // The answers are written when what was read is served, so that whoever waits for one has it.
 #![tactic(auto)]
 
-ghost use Rattle.std.specs.Prelude.{◌≡◌, ◌≤◌, length, take};
+ghost use Rattle.std.specs.Prelude.{◌≡◌, ◌≤◌, ◌×◌, length, take, true, IfOk};
 ghost use Rattle.tables.specs.Lent.{tables};
 ghost use Rattle.frame.specs.Reading.{Taken};
 
 use frame::{Frame, Request};
-use libc::{STDIN_FILENO, STDOUT_FILENO};
+use std::io;
+use std::io::{Read, Write};
 
 // How many characters are kept of a line whose end is not read yet, and whether to go on.
 #[derive(Clone, Copy)]
@@ -39,18 +40,15 @@ impl State {
 }
 
 // Writes the first n bytes of the answers.
-fn write(out: &[u8], n: usize) -> bool
+fn write<W: Write>(to: &mut W, out: &[u8], n: usize) -> io::Result<()>
     requires { n ≤ length out.now }
 {
-    let written = io::write_all(STDOUT_FILENO, &out[..n]);
-    if !written {
-        os::fail(b"write");
-    }
-    written
+    to.write_all(&out[..n])
 }
 
 // Serves what was read, all of it, in as many calls as the answers take; it stops where they can't be written.
-fn serve_piece(
+fn serve_piece<W: Write>(
+    to: &mut W,
     sizes: &mut [u64],
     words: &mut [u32],
     mem: &mut [u8],
@@ -58,44 +56,48 @@ fn serve_piece(
     out: &mut [u8],
     piece: &[u8],
     kept: usize,
-) -> State
+) -> io::Result<State>
     requires { (length line.old ≡ 8193) × ((65537 ≤ length out.old) × ((kept ≤ 8193) × (length piece.now ≤ 65536))) }
-    ensures kept_bound { result.kept ≤ 8193 }
-    ensures taken { Taken result.going
+    ensures kept_bound { IfOk result (λ s. s.kept ≤ 8193) }
+    ensures taken { IfOk result (λ s. Taken true
         (tables sizes.old words.old mem.old) (take kept line.old) piece.now
-        (tables sizes.new words.new mem.new) (take result.kept line.new) }
+        (tables sizes.new words.new mem.new) (take s.kept line.new)) }
 {
     let mut s = State::new(kept);
     let mut i = 0;
-    while i < piece.len() && s.going {
+    while i < piece.len() {
         let p = frame::serve_text(sizes, words, mem, line, out, &piece[i..], s.kept);
         i = i + p.taken;
+        write(to, out, p.written)?;
         s = State {
             kept: p.kept,
-            going: write(out, p.written),
+            going: true,
         };
     }
-    s
+    Ok(s)
 }
 
 // The end of the input.
-fn serve_end(
+fn serve_end<W: Write>(
+    to: &mut W,
     sizes: &mut [u64],
     words: &mut [u32],
     mem: &mut [u8],
     line: &mut [u8],
     out: &mut [u8],
     kept: usize,
-) -> State
-    ensures { result.kept ≡ 0 }
+) -> io::Result<State>
+    ensures { IfOk result (λ s. s.kept ≡ 0) }
 {
     let p = frame::serve_end(sizes, words, mem, line, out, kept);
-    write(out, p.written);
-    State::done()
+    write(to, out, p.written)?;
+    Ok(State::done())
 }
 
 // Reads once, and serves what came.
-fn serve_some(
+fn serve_some<R: Read, W: Write>(
+    from: &mut R,
+    to: &mut W,
     sizes: &mut [u64],
     words: &mut [u32],
     mem: &mut [u8],
@@ -103,44 +105,42 @@ fn serve_some(
     out: &mut [u8],
     input: &mut [u8],
     kept: usize,
-) -> State
+) -> io::Result<State>
     requires { (length line.old ≡ 8193) × ((65537 ≤ length out.old) × ((kept ≤ 8193) × (length input.old ≤ 65536))) }
-    ensures { result.kept ≤ 8193 }
+    ensures { IfOk result (λ s. s.kept ≤ 8193) }
 {
-    let got = libc::read(STDIN_FILENO, input);
-    if got < 0 {
-        os::fail(b"read");
-        return State::done();
+    let n = from.read(input)?;
+    if n == 0 {
+        return serve_end(to, sizes, words, mem, line, out, kept);
     }
-    if got == 0 {
-        return serve_end(sizes, words, mem, line, out, kept);
-    }
-    let n = io::count(got, input);
-    serve_piece(sizes, words, mem, line, out, &input[..n], kept)
+    serve_piece(to, sizes, words, mem, line, out, &input[..n], kept)
 }
 
 // A proved loop has to end, and nothing says that the input does: the turns are counted down from a number that no run
 // uses up.
-fn serve_all(
+fn serve_all<R: Read, W: Write>(
+    from: &mut R,
+    to: &mut W,
     sizes: &mut [u64],
     words: &mut [u32],
     mem: &mut [u8],
     line: &mut [u8],
     out: &mut [u8],
     input: &mut [u8],
-)
+) -> io::Result<()>
     requires { (length line.old ≡ 8193) × ((65537 ≤ length out.old) × (length input.old ≤ 65536)) }
 {
     let mut s = State::new(0);
     let mut turns = u64::MAX;
     while turns > 0 && s.going {
-        s = serve_some(sizes, words, mem, line, out, input, s.kept);
+        s = serve_some(from, to, sizes, words, mem, line, out, input, s.kept)?;
         turns -= 1;
     }
+    Ok(())
 }
 
 // The store is empty: its tables are zero.
-fn main() {
+fn main(rt: HostRuntime) -> io::Result<()> {
     let mut sizes = [0u64; Frame::SIZES];
     let mut words = [0u32; Frame::WORDS];
     let mut mem = [0u8; Frame::MEMORY];
@@ -148,6 +148,13 @@ fn main() {
     let mut out = [0u8; State::ANSWERS];
     let mut input = [0u8; State::INPUT];
     serve_all(
-        &mut sizes, &mut words, &mut mem, &mut line, &mut out, &mut input,
-    );
+        &mut rt.stdin(),
+        &mut rt.stdout(),
+        &mut sizes,
+        &mut words,
+        &mut mem,
+        &mut line,
+        &mut out,
+        &mut input,
+    )
 }

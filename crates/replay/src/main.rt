@@ -2,58 +2,59 @@
 // the replies are the same: `same N`, `PAIR PLACE` or `odd N`. At the first difference it reads no further.
 #![tactic(auto)]
 
+ghost use Rattle.std.specs.Prelude.{◌≤◌, length, IfOk};
+
 use frame::{Frame, Judge, Request, Verdict};
-use libc::{STDIN_FILENO, STDOUT_FILENO};
+use std::io;
+use std::io::{Read, Write};
 
 // Bytes of input read at a time.
 const INPUT: usize = 65536;
 
-// What a read of more of the recording answers; 0 where nothing more is wanted.
-fn read_on(input: &mut [u8], j: Judge) -> isize {
+// How many bytes of the recording a read brings; 0 where nothing more is wanted.
+fn read_on<R: Read>(from: &mut R, input: &mut [u8], j: Judge) -> io::Result<usize>
+    ensures { IfOk result (λ n. n ≤ length input.new) }
+{
     if frame::decided(j) {
-        return 0;
+        return Ok(0);
     }
-    let got = libc::read(STDIN_FILENO, input);
-    if got < 0 {
-        os::fail(b"read");
-    }
-    got
+    from.read(input)
 }
 
-fn say(v: Verdict) {
+fn say<W: Write>(to: &mut W, v: Verdict) -> io::Result<()> {
     let mut text = [0u8; Verdict::ROOM];
     let n = frame::put_verdict(v, &mut text);
-    if !io::write_all(STDOUT_FILENO, &text[..n]) {
-        os::fail(b"write");
-    }
+    to.write_all(&text[..n])
 }
 
 // A proved loop has to end, and nothing says that the input does: the turns are counted down from a number that no run
 // uses up. A read that failed leaves no verdict.
-fn judge_all(
+fn judge_all<R: Read, W: Write>(
+    from: &mut R,
+    to: &mut W,
     sizes: &mut [u64],
     words: &mut [u32],
     mem: &mut [u8],
     line: &mut [u8],
     out: &mut [u8],
     input: &mut [u8],
-) {
+) -> io::Result<()> {
     let mut j = Judge::new();
-    let mut got = read_on(input, j);
+    let mut got = read_on(from, input, j)?;
     let mut turns = u64::MAX;
     while turns > 0 && got > 0 {
-        let n = io::count(got, input);
-        j = frame::judge_text(sizes, words, mem, line, out, &input[..n], j);
-        got = read_on(input, j);
+        j = frame::judge_text(sizes, words, mem, line, out, &input[..got], j);
+        got = read_on(from, input, j)?;
         turns -= 1;
     }
-    if got == 0 {
-        say(frame::judged(j, line, out));
+    if got != 0 {
+        return Ok(());
     }
+    say(to, frame::judged(j, line, out))
 }
 
 // The store is empty: its tables are zero.
-fn main() {
+fn main(rt: HostRuntime) -> io::Result<()> {
     let mut sizes = [0u64; Frame::SIZES];
     let mut words = [0u32; Frame::WORDS];
     let mut mem = [0u8; Frame::MEMORY];
@@ -61,6 +62,13 @@ fn main() {
     let mut out = [0u8; frame::MIN_OUT];
     let mut input = [0u8; INPUT];
     judge_all(
-        &mut sizes, &mut words, &mut mem, &mut line, &mut out, &mut input,
-    );
+        &mut rt.stdin(),
+        &mut rt.stdout(),
+        &mut sizes,
+        &mut words,
+        &mut mem,
+        &mut line,
+        &mut out,
+        &mut input,
+    )
 }

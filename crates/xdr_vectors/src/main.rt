@@ -4,65 +4,65 @@
 
 ghost use Rattle.std.specs.Prelude.{◌≡◌, length};
 
-use libc::STDOUT_FILENO;
+use std::io;
+use std::io::Write;
 use xdr::{Bytes, Cursor, Long, Word};
 
-fn say(text: &[u8]) {
-    io::write_all(STDOUT_FILENO, text);
+fn say<W: Write>(to: &mut W, text: &[u8]) -> io::Result<()> {
+    to.write_all(text)
 }
 
-fn say_number(n: u64) {
-    io::print_decimal(STDOUT_FILENO, n);
+fn say_number<W: Write>(to: &mut W, n: u64) -> io::Result<()> {
+    write!(to, "{n}")
 }
 
-fn say_fault(place: usize) {
-    say(b"fault ");
-    say_number(place as u64);
-    say(b"\n");
+fn say_fault<W: Write>(to: &mut W, place: usize) -> io::Result<()> {
+    say(to, b"fault ")?;
+    say_number(to, place as u64)?;
+    say(to, b"\n")
 }
 
-fn say_next(c: Cursor) {
-    say(b" next ");
-    say_number(c.at as u64);
-    say(b"\n");
+fn say_next<W: Write>(to: &mut W, c: Cursor) -> io::Result<()> {
+    say(to, b" next ")?;
+    say_number(to, c.at as u64)?;
+    say(to, b"\n")
 }
 
-fn say_hex(s: &[u8]) {
-    let mut i = 0;
-    while i < s.len() {
-        io::print_hex(STDOUT_FILENO, s[i] as u64, 2);
-        i += 1;
+fn say_hex<W: Write>(to: &mut W, s: &[u8]) -> io::Result<()> {
+    for b in s {
+        write!(to, "{b:02x}")?;
     }
+    Ok(())
 }
 
-fn say_word(w: Word) {
+fn say_word<W: Write>(to: &mut W, w: Word) -> io::Result<()> {
     match w {
         Word::Value(v, c) => {
-            say_number(v as u64);
-            say_next(c)
+            say_number(to, v as u64)?;
+            say_next(to, c)
         }
-        Word::Fault(p) => say_fault(p),
+        Word::Fault(p) => say_fault(to, p),
     }
 }
 
-fn say_long(l: Long) {
+fn say_long<W: Write>(to: &mut W, l: Long) -> io::Result<()> {
     match l {
         Long::Value(v, c) => {
-            say_number(v);
-            say_next(c)
+            say_number(to, v)?;
+            say_next(to, c)
         }
-        Long::Fault(p) => say_fault(p),
+        Long::Fault(p) => say_fault(to, p),
     }
 }
 
-fn say_bytes(s: &[u8], b: Bytes) {
+fn say_bytes<W: Write>(to: &mut W, s: &[u8], b: Bytes) -> io::Result<()> {
     match b {
         Bytes::Found(d, c) => {
-            say(b"0x");
-            say_hex(xdr::part(s, d));
-            say_next(c)
+            say(to, b"0x")?;
+            say_hex(to, xdr::part(s, d))?;
+            say_next(to, c)
         }
-        Bytes::Fault(p) => say_fault(p),
+        Bytes::Fault(p) => say_fault(to, p),
     }
 }
 
@@ -78,28 +78,28 @@ fn put_file(out: &mut [u8])
 }
 
 // The file read back: name, kind, interpreter, owner, data; each fault ends the reading.
-fn show_file(s: &[u8]) {
+fn show_file<W: Write>(to: &mut W, s: &[u8]) -> io::Result<()> {
     let name = Cursor::new(0).opaque(s, 255);
-    say_bytes(s, name);
+    say_bytes(to, s, name)?;
     let Bytes::Found(_, c) = name else {
-        return;
+        return Ok(());
     };
     let kind = c.up_to(s, 2);
-    say_word(kind);
+    say_word(to, kind)?;
     let Word::Value(_, c) = kind else {
-        return;
+        return Ok(());
     };
     let interpreter = c.opaque(s, 255);
-    say_bytes(s, interpreter);
+    say_bytes(to, s, interpreter)?;
     let Bytes::Found(_, c) = interpreter else {
-        return;
+        return Ok(());
     };
     let owner = c.opaque(s, 32);
-    say_bytes(s, owner);
+    say_bytes(to, s, owner)?;
     let Bytes::Found(_, c) = owner else {
-        return;
+        return Ok(());
     };
-    say_bytes(s, c.opaque(s, 65535));
+    say_bytes(to, s, c.opaque(s, 65535))
 }
 
 // The first n bytes of s, or all of them.
@@ -108,100 +108,104 @@ fn front(s: &[u8], n: usize) -> &[u8] {
 }
 
 // The name, cut at every byte.
-fn show_cuts(s: &[u8]) {
+fn show_cuts<W: Write>(to: &mut W, s: &[u8]) -> io::Result<()> {
     for n in 0..17 {
         let t = front(s, n);
-        say_bytes(t, Cursor::new(0).opaque(t, 255));
+        say_bytes(to, t, Cursor::new(0).opaque(t, 255))?;
     }
+    Ok(())
 }
 
 // Opaque data of n bytes, of those that stand in text, at limit n and at limit n - 1.
-fn show_length(text: &[u8], n: u32) {
+fn show_length<W: Write>(to: &mut W, text: &[u8], n: u32) -> io::Result<()> {
     let mut out = [0xffu8; 16];
     let d = front(text, n as usize);
     if 8 < d.len() {
-        return;
+        return Ok(());
     }
     let end = xdr::put_opaque(&mut out, 2, d);
-    say_hex(front(&out, end + 1));
-    say(b"\n");
+    say_hex(to, front(&out, end + 1))?;
+    say(to, b"\n")?;
     let s: &[u8] = &out;
-    say_bytes(s, Cursor::new(2).opaque(s, n));
+    say_bytes(to, s, Cursor::new(2).opaque(s, n))?;
     if 0 < n {
-        say_bytes(s, Cursor::new(2).opaque(s, n - 1));
+        say_bytes(to, s, Cursor::new(2).opaque(s, n - 1))?;
     }
+    Ok(())
 }
 
-fn show_lengths() {
+fn show_lengths<W: Write>(to: &mut W) -> io::Result<()> {
     for n in 0..5 {
-        show_length(b"wxyz", n);
+        show_length(to, b"wxyz", n)?;
     }
+    Ok(())
 }
 
-fn show_numbers() {
+fn show_numbers<W: Write>(to: &mut W) -> io::Result<()> {
     let mut out = [0xffu8; 24];
     let p = xdr::put_u32(&mut out, 0, 4293844428);
     let p = xdr::put_u64(&mut out, p, 72623859790382856);
     let p = xdr::put_bool(&mut out, p, true);
     xdr::put_bool(&mut out, p, false);
-    say_hex(&out);
-    say(b"\n");
+    say_hex(to, &out)?;
+    say(to, b"\n")?;
     let s: &[u8] = &out;
-    say_word(Cursor::new(0).word(s));
-    say_long(Cursor::new(4).long(s));
-    say_word(Cursor::new(12).up_to(s, Cursor::MAX_BOOL));
-    say_word(Cursor::new(16).up_to(s, Cursor::MAX_BOOL));
-    say_word(Cursor::new(0).up_to(s, Cursor::MAX_BOOL));
-    say_word(Cursor::new(20).word(s));
-    say_word(Cursor::new(21).word(s));
-    say_long(Cursor::new(17).long(s));
-    say_long(Cursor::new(24).long(s));
-    say_word(Cursor::new(25).word(s));
-    say_bytes(s, Cursor::new(4).fixed(s, 0));
-    say_bytes(s, Cursor::new(8).fixed(s, 16));
-    say_bytes(s, Cursor::new(8).fixed(s, 17));
-    say_bytes(s, Cursor::new(30).fixed(s, 0));
+    say_word(to, Cursor::new(0).word(s))?;
+    say_long(to, Cursor::new(4).long(s))?;
+    say_word(to, Cursor::new(12).up_to(s, Cursor::MAX_BOOL))?;
+    say_word(to, Cursor::new(16).up_to(s, Cursor::MAX_BOOL))?;
+    say_word(to, Cursor::new(0).up_to(s, Cursor::MAX_BOOL))?;
+    say_word(to, Cursor::new(20).word(s))?;
+    say_word(to, Cursor::new(21).word(s))?;
+    say_long(to, Cursor::new(17).long(s))?;
+    say_long(to, Cursor::new(24).long(s))?;
+    say_word(to, Cursor::new(25).word(s))?;
+    say_bytes(to, s, Cursor::new(4).fixed(s, 0))?;
+    say_bytes(to, s, Cursor::new(8).fixed(s, 16))?;
+    say_bytes(to, s, Cursor::new(8).fixed(s, 17))?;
+    say_bytes(to, s, Cursor::new(30).fixed(s, 0))
 }
 
 // Damaged pads, and a pad that is cut behind a damaged byte.
-fn show_pads() {
+fn show_pads<W: Write>(to: &mut W) -> io::Result<()> {
     let first = b"\x00\x00\x00\x01a\x01\x00\x00";
     let last = b"\x00\x00\x00\x01a\x00\x00\x01";
     let cut = b"\x00\x00\x00\x01a\x00\x01";
     let missing = b"\x00\x00\x00\x01a\x00\x00";
-    say_bytes(first, Cursor::new(0).opaque(first, 1));
-    say_bytes(last, Cursor::new(0).opaque(last, 1));
-    say_bytes(cut, Cursor::new(0).opaque(cut, 1));
-    say_bytes(missing, Cursor::new(0).opaque(missing, 1));
+    say_bytes(to, first, Cursor::new(0).opaque(first, 1))?;
+    say_bytes(to, last, Cursor::new(0).opaque(last, 1))?;
+    say_bytes(to, cut, Cursor::new(0).opaque(cut, 1))?;
+    say_bytes(to, missing, Cursor::new(0).opaque(missing, 1))
 }
 
 // An array of three numbers at its length, at a shorter limit and cut in its length and in its last number; and one of none.
-fn show_arrays() {
+fn show_arrays<W: Write>(to: &mut W) -> io::Result<()> {
     let mut out = [0xffu8; 20];
     let ns = [17, 8192, 24576];
     let p = xdr::put_array(&mut out, 0, &ns);
     xdr::put_array(&mut out, p, &ns[..0]);
-    say_hex(&out);
-    say(b"\n");
+    say_hex(to, &out)?;
+    say(to, b"\n")?;
     let s: &[u8] = &out;
-    say_bytes(s, Cursor::new(0).array(s, 3));
-    say_bytes(s, Cursor::new(0).array(s, 2));
-    say_bytes(s, Cursor::new(16).array(s, 0));
+    say_bytes(to, s, Cursor::new(0).array(s, 3))?;
+    say_bytes(to, s, Cursor::new(0).array(s, 2))?;
+    say_bytes(to, s, Cursor::new(16).array(s, 0))?;
     let short = front(s, 3);
-    say_bytes(short, Cursor::new(0).array(short, 3));
+    say_bytes(to, short, Cursor::new(0).array(short, 3))?;
     let cut = front(s, 15);
-    say_bytes(cut, Cursor::new(0).array(cut, 3));
+    say_bytes(to, cut, Cursor::new(0).array(cut, 3))
 }
 
-fn main() {
+fn main(rt: HostRuntime) -> io::Result<()> {
+    let to = &mut rt.stdout();
     let mut file = [0u8; 48];
     put_file(&mut file);
-    say_hex(&file);
-    say(b"\n");
-    show_file(&file);
-    show_cuts(&file);
-    show_lengths();
-    show_numbers();
-    show_pads();
-    show_arrays();
+    say_hex(to, &file)?;
+    say(to, b"\n")?;
+    show_file(to, &file)?;
+    show_cuts(to, &file)?;
+    show_lengths(to)?;
+    show_numbers(to)?;
+    show_pads(to)?;
+    show_arrays(to)
 }

@@ -1,0 +1,8 @@
+use Rattle.client.proofs.ReadLaws.{failed}
+use Rattle.client.proofs.result.body.Goals as goal
+
+pub returns-then-e-eq0 : goal.returns-then-e-eq0
+returns-then-e-eq0 c = rw c.if-e-eq0.true c.ok_body.ensures
+
+pub returns : goal.returns
+returns c = failed _ _ _ _ c.if-e-eq0.false

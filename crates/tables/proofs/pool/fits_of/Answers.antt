@@ -1,0 +1,37 @@
+use mathlib.Core.Path.{sym, ◌∙◌}
+use native.Mathlib.Omega.{arith}
+use lib.Dec.{ltb}
+use Rattle.rules.specs.Store.{is_reserved}
+use Rattle.tables.specs.Tally.{owes_by}
+use Rattle.rules.proofs.CountLaws.{count_most}
+use Rattle.tables.proofs.PoolLaws.{unreserved, fits-unreserved, fits_bound, fits-counted}
+use Rattle.tables.proofs.pool.fits_of.Goals as goal
+
+pub returns-then-not-reserved : goal.returns-then-not-reserved
+returns-then-not-reserved c =
+    fits-unreserved c.requires.counted (unreserved c.args.words.now (sym c.requires.slots.reserved_is ∙ c.if-not-reserved.true))
+
+pub count_of_sort-requires : goal.count_of_sort-requires
+count_of_sort-requires c = c.requires.counted.few
+
+pub overflow_add-held : goal.overflow_add-held
+overflow_add-held c =
+    let ws = c.args.words.now in
+    omega (arith, c.requires.counted.few, c.requires.slots.held_is, c.count_of_sort.ensures, count_most (ltb 1) ws, count_most is_reserved ws)
+
+pub returns-then-held-count_of_sort : goal.returns-then-held-count_of_sort
+returns-then-held-count_of_sort c =
+    fits_bound c.requires.counted (omega (arith, c.requires.slots.held_is, c.count_of_sort.ensures, c.if-held-count_of_sort.true))
+
+pub owed_of-requires : goal.owed_of-requires
+owed_of-requires c = record { room = c.requires; used_is = c.used_blocks-used.ensures }
+
+pub overflow_add-result : goal.overflow_add-result
+overflow_add-result c =
+    let k = c.requires.counted in
+    let cs = c.args.counts.now in
+    omega (arith, k.few, k.most, c.used_blocks-used.ensures, c.owed_of.ensures, count_most (ltb 0) cs, count_most (owes_by cs) c.args.words.now)
+
+pub returns : goal.returns
+returns c =
+    fits-counted c.requires.counted _ _ c.used_blocks-used.ensures c.owed_of.ensures

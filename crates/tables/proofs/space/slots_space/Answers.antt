@@ -1,0 +1,23 @@
+use native.Mathlib.Omega.{arith}
+use Rattle.rules.proofs.CountLaws.{count_most}
+use Rattle.tables.proofs.SpaceLaws.{note_asks, alone-few, slots_are}
+use Rattle.tables.specs.Tally.{owes_by}
+use Rattle.tables.proofs.space.slots_space.Goals as goal
+
+pub owed_slots-owed-requires : goal.owed_slots-owed-requires
+owed_slots-owed-requires c = c.requires.looked_up
+
+pub forget_all-alone-requires : goal.forget_all-alone-requires
+forget_all-alone-requires c = c.requires.counted
+
+pub note_all-requires : goal.note_all-requires
+note_all-requires c =
+    note_asks c.requires c.forget_all-alone.ensures
+
+pub overflow_add-result : goal.overflow_add-result
+overflow_add-result c =
+    omega (arith, alone-few c.requires c.forget_all-alone.ensures, c.owed_slots-owed.ensures, count_most (owes_by c.args.counts.now) c.args.words.now)
+
+pub returns : goal.returns
+returns c =
+    slots_are c.requires c.forget_all-alone.ensures c.note_all.ensures c.count_of_sort-used.ensures c.owed_slots-owed.ensures

@@ -1,5 +1,5 @@
 /* The client's half as four calls with C's calling convention, for x86-64 Linux: a COMPOUND is written from operations, and the reply to it
-   is taken apart. Link target/staticlib/libclient.a, which `rt staticlib client` writes. Of the C library it takes memcpy, memmove and
+   is taken apart. Link target/staticlib/libclient.a, which `tools/archive client` writes. Of the C library it takes memcpy, memmove and
    memset; it allocates nothing and keeps no state.
 
    Lengths count elements. Every call takes any numbers, lengths and contents, and answers 0 or one of these:

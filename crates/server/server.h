@@ -1,5 +1,5 @@
 /* The server core as four calls with C's calling convention, for x86-64 Linux. Link target/staticlib/libserver.a, which
-   `rt staticlib server` writes. Of the C library it takes memcpy, memmove and memset; it allocates nothing and keeps no state.
+   `tools/archive server` writes. Of the C library it takes memcpy, memmove and memset; it allocates nothing and keeps no state.
 
    The store is lent with every call:
 

@@ -13,6 +13,6 @@ fn main() {
         println!("cargo::rustc-link-lib=static=client");
     } else {
         let path = archive.display();
-        println!("cargo::error={path} is missing: `rt staticlib client` writes it");
+        println!("cargo::error={path} is missing: `tools/archive client` writes it");
     }
 }

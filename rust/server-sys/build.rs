@@ -13,6 +13,6 @@ fn main() {
         println!("cargo::rustc-link-lib=static=server");
     } else {
         let path = archive.display();
-        println!("cargo::error={path} is missing: `rt staticlib server` writes it");
+        println!("cargo::error={path} is missing: `tools/archive server` writes it");
     }
 }

@@ -10,22 +10,14 @@ use native.Mathlib.Omega.{arith}
 use borrow.Author.Tests.{lt-ltb, le-ltb, lt-leb, eq-eqb, ne_eqb}
 use lib.ListN.{length, get_or, set, take}
 use lib.Seq.{take-suc-set}
-use Rattle.xdr.specs.declared.read.Cursor.{Cursor}
 use Rattle.xdr.specs.Layout.{is_word}
 use Rattle.rules.specs.Operation.{Op, find}
-use Rattle.rules.specs.Client.{piece_layout, step}
 use Rattle.wire.specs.declared.operation.Operation.{Operation}
 use Rattle.wire.specs.declared.operation.ReadArgs.{ReadArgs}
 use Rattle.wire.specs.Decoded.{meaning}
 use Rattle.wire.proofs.RequestLaws.{NoneOf, none_found}
 use Rattle.client.specs.declared.records.OpRecord.{OpRecord}
-use Rattle.client.specs.declared.reply.Body.{Body}
-use Rattle.client.specs.declared.reply.OpResult.{OpResult}
-use Rattle.client.specs.declared.reply.Step.{Step}
-use Rattle.client.specs.declared.reply.PieceRead.{PieceRead}
-use Rattle.client.specs.declared.open.Opened.{Opened}
-use Rattle.client.specs.Records.{record_at, if_word, clone_in, record_rows, record_op, record_ops, given_records, body_numbers, step_number, step_numbers, StepPromise, piece_number, piece_numbers, PiecePromise}
-use Rattle.client.specs.Read.{of_step, of_piece}
+use Rattle.client.specs.Records.{record_at, if_word, clone_in, record_rows, record_op, record_ops, given_records}
 use Rattle.client.specs.declared.request.Wrote.{Wrote}
 use Rattle.client.specs.Given.{well_given, given_ops, given, WritePromise}
 use Rattle.client.proofs.RequestLaws.{none≢some, refuses, refused}

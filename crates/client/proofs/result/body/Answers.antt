@@ -5,4 +5,4 @@ pub returns-then-e-eq0 : goal.returns-then-e-eq0
 returns-then-e-eq0 c = rw c.if-e-eq0.true c.ok_body.ensures
 
 pub returns : goal.returns
-returns c = failed _ _ _ _ c.if-e-eq0.false
+returns c = failed c.args.n c.args.e c.args.s.now c.args.c.at c.if-e-eq0.false

@@ -8,7 +8,7 @@ use mathlib.Core.List.{List, [], ◌∷◌, ◌++◌, append_assoc, append-nil}
 use native.Mathlib.Numerals.{add-one}
 use native.Mathlib.Omega.{arith}
 use borrow.Author.Tests.{lt-ltb, le-ltb, lt-leb, eq-eqb, ne_eqb}
-use lib.ListN.{length, get_or, set, take}
+use lib.ListN.{length, set, take}
 use lib.Seq.{take-suc-set}
 use Rattle.xdr.specs.Layout.{is_word}
 use Rattle.rules.specs.Operation.{Op, find}

@@ -1,18 +1,13 @@
 -- Operations as records of ten numbers.
-use Rattle.std.specs.Prelude.{ℕ, zero, suc, ◌+◌, ◌/◌, ◌%◌, ◌≡◌, cond, ◌&&◌, List, [], ◌∷◌, length, get_or, replicate, eqb}
+use Rattle.std.specs.Prelude.{ℕ, zero, suc, ◌+◌, ◌/◌, ◌%◌, cond, ◌&&◌, List, [], ◌∷◌, length, get_or, eqb}
 use Rattle.std.proofs.Math.Option.{Option, none, some}
 use Rattle.xdr.specs.Layout.{is_word}
 use Rattle.rules.specs.Operation.{Op, find}
-use Rattle.rules.specs.Client.{wrote, piece_layout, opened, step}
 use Rattle.wire.specs.declared.operation.CloneArgs.{CloneArgs}
 use Rattle.wire.specs.declared.operation.Operation.{Operation}
 use Rattle.client.specs.declared.records.OpRecord.{OpRecord}
 use Rattle.client.specs.declared.records.Made.{Made}
-use Rattle.client.specs.declared.reply.Body.{Body}
-use Rattle.client.specs.declared.reply.Step.{Step}
-use Rattle.client.specs.declared.reply.PieceRead.{PieceRead}
 use Rattle.client.specs.Given.{given_ops}
-use Rattle.client.specs.Read.{of_piece, of_step}
 
 -- ---- operations
 

@@ -11,7 +11,7 @@ use lib.Dec.{eqb}
 use borrow.Author.Tests.{ne_eqb}
 use Rattle.xdr.specs.Encode.{concat_map}
 use Rattle.xdr.proofs.BytesLaws.{written_then}
-use Rattle.rules.specs.Store.{Geometry, good_geometry, Store, sound}
+use Rattle.rules.specs.Store.{Geometry, good_geometry, Store}
 use Rattle.rules.specs.Fault.{NOWHERE, fault_at}
 use Rattle.rules.specs.Operation.{BADXDR, Op, Item, op, bad, item_at, items}
 use Rattle.rules.specs.Run.{State, Event, failed, perform, reached, config}

@@ -9,7 +9,7 @@ use Rattle.rules.specs.Fault.{NOWHERE, fault_at}
 use Rattle.rules.specs.Run.{State, file_of, Config, config, Event, failed, perform}
 use Rattle.rules.specs.Calls.{compound, result_bytes, place_after, last_place, last_status, last_store, Call, Outcome, with_place, served, last_fault, Gives}
 use Rattle.store.specs.Readable.{Placed}
-use Rattle.tables.specs.Lent.{geometry_of, Held}
+use Rattle.tables.specs.Lent.{geometry_of}
 use Rattle.tables.specs.Tables.{Shaped, TableTrue}
 use Rattle.tables.specs.Space.{SpaceKnown}
 use Rattle.compound.specs.declared.answer.Handle.{Handle}

@@ -5,8 +5,7 @@ use mathlib.Core.List.{List, [], ◌∷◌}
 use native.Mathlib.Numerals.{add-one}
 use native.Mathlib.Omega.{arith}
 use lib.ListN.{length, get_or, take, drop, drop_of_length-le}
-use lib.Seq.{drop-cons}
-use lib.Seq.{length-take-le}
+use lib.Seq.{drop-cons, length-take-le}
 use borrow.Author.Tests.{eq-eqb, ne_eqb}
 use Rattle.std.proofs.lemmas.List.{get_or-take}
 use Rattle.frame.specs.Lines.{slice, index_after, index_of}
@@ -28,4 +27,7 @@ module _ (t : List ℕ) (b to i : ℕ) where
 
   pub byte_none : to ≤ i → to ≤ length t → index_of b (slice i to t) ≡ 0
   unfolding slice index_of
-  byte_none h k = rw (drop_of_length-le (take to t) (let long : length (take to t) ≡ to = length-take-le to t k in omega (arith, long)))
+  byte_none h k =
+      let long : length (take to t) ≡ to = length-take-le to t k in
+      let past : length (take to t) ≤ i = omega (arith, long) in
+      rw (drop_of_length-le (take to t) past)

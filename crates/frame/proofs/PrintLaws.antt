@@ -46,6 +46,19 @@ few-digits n k b w =
 
 -- ---- texts
 
+-- a text that is copied into the part from `at` on
+pub text-written : (text out last : List ℕ) (at : ℕ) → at + length text ≤ length out
+    → last ≡ take (length text) text ++ drop (length text) (take (length out - at) (drop at out))
+    → Written text (length text) at out (P.put_mid at (length out - at) out last) (at + length text)
+unfolding splice
+text-written text out last at h e =
+    let rest : length (drop at out) ≤ length out - at = rw (length-drop at out) (omega arith) in
+    record {
+      bytes = rw (e, take-length text, take_all (length out - at) (drop at out) rest, P.Post-is at (length out) out (omega arith), drop-length out, append-nil, drop-drop (length text) at out);
+      size = refl;
+      place = refl;
+    }
+
 -- a number's digits, as `io::decimal` makes them
 pub number-written : (n k : ℕ) (ds : List ℕ) {at p : ℕ} {out after : List ℕ} → n < 2 ^ 64 → IsPrefixLen k ds → IsDigitCount 10 1 n k → take k ds ≡ last_digits 10 k n
     → Written (take k ds) (length (take k ds)) at out after p → Written (decimal n) (length (decimal n)) at out after p × (p ≤ at + 20)

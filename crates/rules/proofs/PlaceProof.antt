@@ -11,7 +11,7 @@ use lib.Dec.{eqb}
 use lib.ListN.{length, replicate, length-take}
 use lib.Seq.{take-append-le}
 use Rattle.xdr.specs.Decode.{Parsed, got, fault, and_then, stop, Reader, ret, number}
-use Rattle.xdr.specs.Layout.{Layout, uint, hyper, up_to_limit, boolean, bytes, opaque_data, any_length, ◌then◌}
+use Rattle.xdr.specs.Layout.{Layout, uint, hyper, up_to_limit, boolean, opaque_data, any_length, ◌then◌}
 use Rattle.xdr.proofs.Onward.{Onward, fault≢got, length-zeros, stops-inside, longer, ret_onward, then_onward, Completed, mended}
 use Rattle.xdr.proofs.ReaderLaws.{fixed_onward, number_onward, bounded_onward, opaque_onward, array_onward, both_onward, boolean_onward}
 use Rattle.rules.specs.Store.{Geometry, Store}

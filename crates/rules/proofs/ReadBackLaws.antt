@@ -11,7 +11,7 @@ use borrow.Author.Tests.{eqb-true, le-leb, lt-leb, lt-ltb, eq-eqb, ne_eqb}
 use lib.ListN.{length, length-append}
 use lib.Dec.{eqb}
 use Rattle.xdr.specs.Encode.{u32, concat_map}
-use Rattle.xdr.specs.Decode.{Parsed, got, fault, stop, and_then, number, times}
+use Rattle.xdr.specs.Decode.{Parsed, got, fault, stop, and_then, times}
 use Rattle.xdr.proofs.BoolLaws.{and_left, and_both}
 use Rattle.xdr.proofs.DecodeLaws.{missing, number-missing}
 use Rattle.xdr.proofs.Onward.{fault≢got}

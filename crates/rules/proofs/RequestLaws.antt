@@ -15,7 +15,7 @@ use Rattle.xdr.proofs.BoolLaws.{and_left, and_right}
 use Rattle.xdr.proofs.RoundTrip.{Stands, stands-first, stands-rest}
 use Rattle.xdr.proofs.LayoutLaws.{ReadsBack, uint-back, hyper-back, limit_back, boolean-back, bytes_back, opaque_data_back, then-back}
 use Rattle.xdr.proofs.ArrayLaws.{uints-back}
-use Rattle.rules.specs.Operation.{Op, GETATTR, GETFH, RESTOREFH, SAVEFH, PUTFH, READ, READ_PLUS, WRITE, ALLOCATE, DEALLOCATE, SEEK, COPY, CLONE, stateid, handle_args, bitmap_args, read_args, write_args, region_args, clone_args, copy_args, op_bytes, op_fits, three, write_of, clone_of, copy_of, reading, readers, find, Item, op, args_item, unserved, number_item, item_at, items, header_layout, header, request_bytes}
+use Rattle.rules.specs.Operation.{Op, GETATTR, GETFH, RESTOREFH, SAVEFH, PUTFH, READ, READ_PLUS, WRITE, ALLOCATE, DEALLOCATE, SEEK, COPY, CLONE, stateid, handle_args, bitmap_args, read_args, write_args, region_args, clone_args, copy_args, op_bytes, op_fits, three, write_of, clone_of, copy_of, reading, readers, find, op, args_item, unserved, number_item, item_at, items, header_layout, header, request_bytes}
 use Rattle.rules.specs.Builder.{items_from}
 
 -- ---- an operation

@@ -1,5 +1,5 @@
 -- A client's call of PUTFH and SEEK: it is served, leaves the store, and its reply, read, has SEEK's eof and place.
-use Prim.Native.Nat.{ℕ, ◌+◌, ◌-◌, ◌^◌, ◌≤◌, ◌<◌}
+use Prim.Native.Nat.{ℕ, ◌+◌, ◌^◌, ◌≤◌, ◌<◌}
 use mathlib.Core.Path.{◌≡◌, refl, ap, ◌∙◌, subst}
 use mathlib.Core.Bool.{Bool, true, false, cond}
 use mathlib.Core.Option.{none, some}
@@ -15,7 +15,7 @@ use Rattle.xdr.specs.Layout.{every, uint, boolean, hyper, ◌then◌}
 use Rattle.xdr.proofs.EncodeLaws.{length-u32, length-u64, length-opaque, value-be}
 use Rattle.xdr.proofs.RoundTrip.{Stands}
 use Rattle.xdr.proofs.LayoutLaws.{ReadsBack, uint-back, hyper-back, boolean-back, then-back}
-use Rattle.rules.specs.Store.{Store, size_of, sound}
+use Rattle.rules.specs.Store.{Store, size_of}
 use Rattle.rules.specs.Read.{seek_place}
 use Rattle.rules.specs.Operation.{Op, PUTFH, SEEK, op_bytes, op_fits, op, Header, header_layout, request_bytes, seek_result, seek_reply}
 use Rattle.rules.specs.Run.{State, zero_id, errors, Config, does, effect, body, Event, perform, reached}

@@ -1,6 +1,6 @@
 -- For the code that reads bytes: the index of a place's word, the bytes of a slot, and parts that are lent to be read into.
 use Prim.Native.Nat.{ℕ, ◌+◌, ◌*◌, ◌/◌, ◌%◌, ◌≤◌, ◌<◌, min, ◌-◌}
-use mathlib.Core.Path.{◌≡◌, refl, sym, ap, ◌∙◌}
+use mathlib.Core.Path.{◌≡◌, sym, ap, ◌∙◌}
 use mathlib.Core.Bool.{true}
 use mathlib.Core.List.{List, ◌++◌, append_assoc}
 use mathlib.Core.Logic.{◌≢◌}
@@ -11,8 +11,6 @@ use borrow.Author.Tests.{eq-eqb, ne_eqb}
 use borrow.Rule.Slice.PartMut as P
 use lib.ListN.{length, get_or, take, drop, replicate, length-append, length-take, length-drop}
 use lib.Seq.{ext_get_or, get_or-take, get_or-drop, length-take-le, take_at}
-use Rattle.xdr.specs.Bytes.{Written}
-use Rattle.xdr.proofs.BytesLaws.{put-splice}
 use Rattle.rules.specs.Lists.{tabulate}
 use Rattle.rules.specs.Store.{Geometry, Store, word_of, byte_at, bytes_from}
 use Rattle.rules.specs.Read.{is_hole_at}

@@ -1,7 +1,7 @@
 -- The bytes of an edit, after its plan. Contracts cite these.
 use Rattle.std.specs.Prelude.{ℕ, ◌+◌, ◌*◌, ◌≤◌, ◌<◌, ◌≡◌, true, List, ◌≢◌, length, take, drop}
 use Rattle.rules.specs.Store.{Geometry, Store, size_of, word_of, byte_at, sound}
-use Rattle.rules.specs.Edit.{Edit, owns, first_slot, slot_count, kind_of, plan}
+use Rattle.rules.specs.Edit.{owns, first_slot, slot_count, kind_of, plan}
 use Rattle.rules.proofs.PlanLaws.{InPool}
 use Rattle.tables.specs.Tables.{Shaped}
 use Rattle.store.specs.declared.edit.Edit as CodeEdit

@@ -1,4 +1,3 @@
-use Prim.Native.Nat.{◌-◌}
 use native.Mathlib.Omega.{arith}
 use Rattle.xdr.proofs.EncodeLaws.{length-u64}
 use Rattle.compound.proofs.LoopLaws.{held_start, held-runs, held_more, held-stop, held-end}

@@ -8,4 +8,6 @@ put_text-requires c =
 
 pub returns : goal.returns
 returns c =
-    number-written _ _ _ c.well_formed.0.1 c.decimal-k.ensures.in_bounds c.decimal-k.ensures.len c.decimal-k.ensures.1.1 c.put_text.ensures
+    let d = c.decimal-k.ensures in
+    let w = number-written _ _ _ c.well_formed.0.1 d.in_bounds d.len d.digits c.put_text.ensures in
+    record { written = w.0; upper_bound = w.1 }

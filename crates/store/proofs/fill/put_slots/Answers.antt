@@ -1,4 +1,3 @@
-use Prim.Native.Nat.{◌-◌}
 use mathlib.Core.Path.{refl, ◌∙◌}
 use native.Mathlib.Omega.{arith}
 use Rattle.store.proofs.FillLaws.{good-plan, slots_most, putting_start, putting_slot, putting_turn, putting_end}

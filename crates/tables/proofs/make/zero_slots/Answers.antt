@@ -1,4 +1,3 @@
-use Prim.Native.Nat.{◌-◌}
 use Rattle.xdr.proofs.BytesLaws.{zeroing_start, zeroing_more, zeroing_end}
 use native.Mathlib.Omega.{arith}
 use Rattle.tables.proofs.make.zero_slots.Goals as goal

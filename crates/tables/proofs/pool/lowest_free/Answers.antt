@@ -1,4 +1,3 @@
-use Prim.Native.Nat.{◌-◌}
 use native.Mathlib.Omega.{arith}
 use Rattle.tables.proofs.PoolLaws.{first-here, first-behind}
 use Rattle.tables.proofs.pool.lowest_free.Goals as goal

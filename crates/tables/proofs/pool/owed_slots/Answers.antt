@@ -1,4 +1,3 @@
-use Prim.Native.Nat.{◌-◌}
 use native.Mathlib.Omega.{arith}
 use Rattle.tables.specs.Tally.{owes_by}
 use Rattle.rules.proofs.CountLaws.{count-end, count_most}

@@ -1,4 +1,3 @@
-use Prim.Native.Nat.{◌-◌}
 use native.Mathlib.Omega.{arith}
 use borrow.Author.Tests.{not-true, not-false}
 use Rattle.tables.proofs.SurveyLaws.{testing_none, file-ready, testing_fails, held_small, more-small, testing_more, testing_all}

@@ -1,4 +1,3 @@
-use Prim.Native.Nat.{◌-◌}
 use native.Mathlib.Omega.{arith}
 use Rattle.tables.proofs.SpaceLaws.{forgetting_none, forgetting_few, forget_asks, forgetting_more, forgetting_all}
 use Rattle.tables.proofs.space.forget_all.Goals as goal

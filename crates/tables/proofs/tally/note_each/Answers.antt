@@ -1,4 +1,3 @@
-use Prim.Native.Nat.{◌-◌}
 use native.Mathlib.Omega.{arith}
 use Rattle.tables.proofs.TallyLaws.{known_at, noted_one, noting_more, noting_all}
 use Rattle.tables.proofs.tally.note_each.Goals as goal

@@ -1,4 +1,3 @@
-use Prim.Native.Nat.{◌-◌}
 use native.Mathlib.Omega.{arith}
 use Rattle.tables.proofs.TallyLaws.{noting_more, noting_all}
 use Rattle.tables.proofs.tally.note_groups.Goals as goal

@@ -2,7 +2,7 @@
 // whole, with no way out of its loop, so that many characters are compared at a time.
 ghost use Rattle.std.specs.Prelude.{◌≡◌, ◌+◌, ◌≤◌, length, replicate};
 ghost use Rattle.frame.specs.Lines.{slice, index_of};
-ghost use Rattle.frame.specs.Blocks.{mismatch as Blocks·mismatch, mismatches as Blocks·mismatches, Same, Plain};
+ghost use Rattle.frame.specs.Blocks.{mismatch, mismatches, Same, Plain};
 
 #[derive(Clone, Copy)]
 struct Block {}
@@ -13,7 +13,7 @@ impl Block {
 
 // 1 where two characters differ, as they stand.
 fn mismatch(a: u8, b: u8) -> u8
-    ensures { result ≡ Blocks·mismatch a b }
+    ensures { result ≡ mismatch a b }
 {
     if a == b { 0 } else { 1 }
 }
@@ -21,7 +21,7 @@ fn mismatch(a: u8, b: u8) -> u8
 // In how many places a block differs from another.
 fn mismatches(a: &[u8], b: &[u8]) -> u8
     requires { (length a.now ≤ 64) × (length a.now ≤ length b.now) }
-    ensures { result ≡ Blocks·mismatches a.now b.now }
+    ensures { result ≡ mismatches a.now b.now }
 {
     let mut n = 0;
     let mut i = 0;

@@ -4,8 +4,8 @@ ghost use Rattle.frame.specs.declared.judge.Verdict.{Verdict};
 ghost use Rattle.frame.specs.declared.judge.Step.{Step};
 ghost use Rattle.tables.specs.Lent.{tables};
 ghost use Rattle.frame.specs.Text.{part};
-ghost use Rattle.frame.specs.Recording.{lower as Recording·lower, alike as Recording·alike};
-ghost use Rattle.frame.specs.Judging.{next as Judging·next, place_in, Asks, Replies, Answers, judging_of, judge_part, judge_text, judge_call, within as Judging·within, fits as Judging·fits, is_parted, JudgePromise, Untouched};
+ghost use Rattle.frame.specs.Recording.{lower, alike};
+ghost use Rattle.frame.specs.Judging.{next, place_in, Asks, Replies, Answers, judging_of, judge_part, judge_text, judge_call, within, fits, is_parted, JudgePromise, Untouched};
 ghost use Rattle.frame.specs.Printing.{of_verdict, verdict_call};
 
 use crate::blocks::{line_end, same_blocks};
@@ -60,13 +60,13 @@ impl Judge {
 
 // The next number; 2^64 - 1 stays.
 fn next(n: u64) -> u64
-    ensures { result ≡ Judging·next n }
+    ensures { result ≡ next n }
 {
     if n < u64::MAX { n + 1 } else { n }
 }
 
 fn lower(c: u8) -> u8
-    ensures { result ≡ Recording·lower c }
+    ensures { result ≡ lower c }
 {
     match c {
         b'A'..=b'F' => c + 32,
@@ -76,7 +76,7 @@ fn lower(c: u8) -> u8
 
 // How many characters both begin with alike, in either letter case.
 fn alike(a: &[u8], b: &[u8]) -> usize
-    ensures { result ≡ Recording·alike a.now b.now }
+    ensures { result ≡ alike a.now b.now }
 {
     let n = least(a.len(), b.len());
     let mut i = same_blocks(a, b, n);
@@ -184,7 +184,7 @@ fn judge_part(
     ended: bool,
     j: Judge,
 ) -> Judge
-    requires { Judging·fits j line.old out.old ≡ true }
+    requires { fits j line.old out.old ≡ true }
     ensures { JudgePromise
         (judge_part (judging_of j line.old out.old (tables sizes.old words.old mem.old)) (part text.now ended))
         j result line.new out.new
@@ -213,7 +213,7 @@ fn judge_parts(
     text: &[u8],
     j: Judge,
 ) -> Judge
-    requires { Judging·fits j line.old out.old ≡ true }
+    requires { fits j line.old out.old ≡ true }
     ensures { JudgePromise
         (judge_text (judging_of j line.old out.old (tables sizes.old words.old mem.old)) text.now)
         j result line.new out.new
@@ -240,7 +240,7 @@ fn judge_parts(
 
 // The numbers lie within the line and the answer.
 fn within(step: Step) -> bool
-    ensures { result ≡ Judging·within step }
+    ensures { result ≡ within step }
 {
     match step {
         Step::Asking(k) => k <= Request::KEPT,
@@ -252,7 +252,7 @@ fn within(step: Step) -> bool
 
 // The same, and the buffers have room for a line and an answer.
 fn fits(j: Judge, line: &[u8], out: &[u8]) -> bool
-    ensures { result ≡ Judging·fits j line.now out.now }
+    ensures { result ≡ fits j line.now out.now }
 {
     if line.len() < Request::KEPT {
         return false;
@@ -279,7 +279,7 @@ pub fn judge_text(
         (judge_call j line.old out.old (tables sizes.old words.old mem.old) text.now)
         j result line.new out.new
         (tables sizes.new words.new mem.new) }
-    ensures untouched { Untouched (Judging·fits j line.old out.old) j result
+    ensures untouched { Untouched (fits j line.old out.old) j result
         line.old line.new out.old out.new }
 {
     if !fits(j, line, out) {
@@ -303,7 +303,7 @@ pub fn decided(j: Judge) -> bool
 
 // The end in a request's line, or before it begins.
 fn asking(kept: usize, pairs: u64) -> Verdict
-    ensures { result ≡ cond (eqb kept 0) (Verdict.Same pairs) (Verdict.Odd (Judging·next pairs)) }
+    ensures { result ≡ cond (eqb kept 0) (Verdict.Same pairs) (Verdict.Odd (next pairs)) }
 {
     if kept == 0 {
         return Verdict::Same(pairs);
@@ -314,7 +314,7 @@ fn asking(kept: usize, pairs: u64) -> Verdict
 // The end in a reply's line, of which `at` characters came.
 fn comparing(answer: &[u8], at: usize, pairs: u64) -> Verdict
     ensures { result ≡ cond (ltb at (length answer.now))
-        (Verdict.Differs (Judging·next pairs) (place_in answer.now at)) (Verdict.Same (Judging·next pairs)) }
+        (Verdict.Differs (next pairs) (place_in answer.now at)) (Verdict.Same (next pairs)) }
 {
     if at < answer.len() {
         return Verdict::Differs(next(pairs), place_in(answer, at));

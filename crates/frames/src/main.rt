@@ -2,7 +2,7 @@
 // The answers are written when what was read is served, so that whoever waits for one has it.
 #![tactic(auto)]
 
-ghost use Rattle.std.specs.Prelude.{◌≡◌, ◌≤◌, ◌×◌, length, take, true, IfOk};
+ghost use Rattle.std.specs.Prelude.{◌≡◌, ◌≤◌, length, take, true, IfOk};
 ghost use Rattle.tables.specs.Lent.{tables};
 ghost use Rattle.frame.specs.Reading.{Taken};
 

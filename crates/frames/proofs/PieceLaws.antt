@@ -1,7 +1,7 @@
 -- Laws on a piece of the input that is served in several calls.
 use Prim.Native.Nat.{ℕ, ◌+◌, ◌-◌, ◌≤◌, ◌<◌}
 use mathlib.Core.Path.{◌≡◌}
-use mathlib.Core.Bool.{Bool, false}
+use mathlib.Core.Bool.{Bool}
 use mathlib.Core.List.{List}
 use native.Mathlib.Omega.{arith}
 use lib.ListN.{length, take, drop}
@@ -10,7 +10,7 @@ use Rattle.rules.specs.Store.{Store}
 use Rattle.frame.specs.declared.text.Progress.{Progress}
 use Rattle.frame.specs.Reading.{read_text, ReadPromise, Taken}
 use Rattle.frame.proofs.TextLaws.{Lengths, lengths-start, lengths-on}
-use Rattle.frame.proofs.TextProof.{call-within, call_moves, TakenTo, taken_start, taken_more, taken-all, taken-stopped}
+use Rattle.frame.proofs.TextProof.{call-within, call_moves, TakenTo, taken_start, taken_more, taken-all}
 
 -- the piece is taken to place i
 pub record PieceLeft (st₀ : Store) (line₀ out₀ piece : List ℕ) (kept₀ : ℕ) (st : Store) (line out : List ℕ) (kept i : ℕ) : Type 0 where
@@ -51,9 +51,6 @@ module _ {st₀ : Store} {line₀ out₀ piece : List ℕ} {kept₀ : ℕ} {st :
       taken = taken_more st₀ (take kept₀ line₀) piece line kept out st i w (omega (arith, h, left.long.line_is)) left.few left.taken;
     }
 
-  -- the piece is at its end, or the answers can't be written
+  -- the piece is at its end
   pub piece-end : (well : Bool) → length piece ≤ i → (kept ≤ 8193) × Taken well st₀ (take kept₀ line₀) piece st (take kept line)
   piece-end well e = (left.few, taken-all piece well e left.taken)
-
-  pub piece-stopped : {well : Bool} → well ≡ false → (kept ≤ 8193) × Taken well st₀ (take kept₀ line₀) piece st (take kept line)
-  piece-stopped f = (left.few, taken-stopped f)

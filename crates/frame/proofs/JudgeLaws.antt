@@ -19,7 +19,6 @@ use Rattle.frame.specs.Text.{Part, part, parts_of, each_part}
 use Rattle.frame.specs.declared.judge.Verdict as Code
 use Rattle.frame.specs.Recording.{alike, Verdict, same, differs, odd}
 use Rattle.frame.specs.Printing.{of_verdict, verdict_call}
-use Rattle.frame.specs.Blocks.{Same}
 use Rattle.frame.specs.LineCall.{line_into, LinePromise}
 use Rattle.frame.specs.Reading.{Kept}
 use Rattle.frame.specs.Judging.{Judging, asking, asked, comparing, parted, judging, next, place_in, asks, replies, judge_by, judge_part, judge_text, stage_of, judging_of, within, fits, judge_call, verdict_by, Asks, Replies, Answers, JudgePromise, Untouched}

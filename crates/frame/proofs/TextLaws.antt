@@ -9,7 +9,6 @@ use lib.ListN.{length, take, drop, length-take, length-drop, drop_of_length-le}
 use lib.Seq.{take_all, take-length, take-append-add, take_at, length-take-le, drop-drop}
 use lib.Dec.{ltb, eqb, leb-suc-suc}
 use borrow.Author.Tests.{lt-ltb, le-ltb, ltb-true, ltb-false}
-use borrow.Rule.Slice.PartMut as P
 use Rattle.xdr.specs.Bytes.{splice}
 use Rattle.rules.specs.Store.{Store}
 use Rattle.rules.specs.Line.{line_bytes, request_of, refusal_line, answer_request, answer_line}

@@ -1,5 +1,5 @@
 -- The verdict where a recording ends, and its line. Contracts cite these.
-use Rattle.std.specs.Prelude.{ℕ, ◌+◌, ◌≡◌, cond, List, [], ◌∷◌, ◌++◌, length, drop, ltb}
+use Rattle.std.specs.Prelude.{ℕ, ◌≡◌, cond, List, [], ◌∷◌, ◌++◌, length, drop, ltb}
 use Rattle.std.proofs.Math.Option.{Option, none, some}
 use Rattle.frame.specs.declared.judge.Judge.{Judge}
 use Rattle.frame.specs.declared.judge.Verdict as Code

@@ -1,5 +1,5 @@
 use Rattle.std.proofs.Common.{arith, true}
-use Rattle.frames.proofs.PieceLaws.{piece-start, piece-within, piece_moves, piece-more, piece-end}
+use Rattle.frames.proofs.PieceLaws.{piece-within, piece_moves, piece-more, piece-end}
 use Rattle.frames.proofs.serve_piece.Goals as goal
 
 pub overflow_add-i : goal.overflow_add-i

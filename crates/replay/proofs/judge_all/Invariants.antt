@@ -1,4 +1,4 @@
-use Rattle.std.proofs.Common.{◌≡◌, ◌≤◌, length}
+use Rattle.std.proofs.Common.{◌≤◌, length}
 use Rattle.replay.proofs.judge_all.Given as goal
 
 abbrev pub invariant-loop-turns : goal.invariant-loop-turns

@@ -1,4 +1,3 @@
-use Prim.Native.Nat.{◌-◌}
 use native.Mathlib.Omega.{arith}
 use Rattle.frame.proofs.BlockLaws.{mismatches-start, mismatches-more, mismatches-end}
 use Rattle.frame.proofs.blocks.mismatches.Goals as goal

@@ -1,4 +1,3 @@
-use Prim.Native.Nat.{◌-◌}
 use native.Mathlib.Omega.{arith}
 use Rattle.frame.proofs.BlockLaws.{plain-none, plain-on}
 use Rattle.frame.proofs.blocks.plain_blocks.Goals as goal

@@ -1,4 +1,3 @@
-use Prim.Native.Nat.{◌-◌}
 use native.Mathlib.Omega.{arith}
 use Rattle.frame.proofs.BlockLaws.{same_none, same-on}
 use Rattle.frame.proofs.blocks.same_blocks.Goals as goal

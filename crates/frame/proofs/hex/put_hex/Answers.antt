@@ -1,4 +1,3 @@
-use Prim.Native.Nat.{◌-◌}
 use native.Mathlib.Omega.{arith}
 use Rattle.frame.proofs.HexLaws.{hex-start, hex-more, hex-end}
 use Rattle.frame.proofs.hex.put_hex.Goals as goal

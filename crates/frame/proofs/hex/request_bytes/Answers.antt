@@ -1,5 +1,4 @@
 use mathlib.Core.Path.{sym, ap, ◌∙◌}
-use Prim.Native.Nat.{◌-◌}
 use native.Mathlib.Omega.{arith}
 use Rattle.frame.specs.Hex.{of_byte}
 use Rattle.frame.proofs.HexLaws.{bytes-start, bytes-more, refused-long, refused-odd, refused-digit, read_all}

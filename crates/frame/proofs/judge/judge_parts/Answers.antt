@@ -1,4 +1,3 @@
-use Prim.Native.Nat.{◌-◌}
 use native.Mathlib.Omega.{arith}
 use Rattle.frame.proofs.JudgeLaws.{judge_start, judge_fits, judge_more, judge_end}
 use Rattle.frame.proofs.judge.judge_parts.Goals as goal

@@ -9,6 +9,7 @@ use borrow.Rule.Slice.PartMut.{mid_len}
 use Rattle.rules.specs.Store.{Store}
 use Rattle.frame.specs.declared.text.Progress.{Progress}
 use Rattle.frame.specs.Reading.{read_text, ReadPromise, Taken}
+use Rattle.frames.specs.Stopped.{Stopped}
 use Rattle.frame.proofs.TextLaws.{Lengths, lengths-start, lengths-on}
 use Rattle.frame.proofs.TextProof.{call-within, call_moves, TakenTo, taken_start, taken_more, taken-all}
 
@@ -54,3 +55,7 @@ module _ {st₀ : Store} {line₀ out₀ piece : List ℕ} {kept₀ : ℕ} {st :
   -- the piece is at its end
   pub piece-end : (well : Bool) → length piece ≤ i → (kept ≤ 8193) × Taken well st₀ (take kept₀ line₀) piece st (take kept line)
   piece-end well e = (left.few, taken-all piece well e left.taken)
+
+  -- the answers can't be written
+  pub piece-stopped : Stopped st₀ (take kept₀ line₀) piece st line
+  piece-stopped = record { at = i; kept = kept; within = left.reached; few = left.few; store_is = left.taken.0; line_is = left.taken.1 }

@@ -2,9 +2,10 @@
 // The answers are written when what was read is served, so that whoever waits for one has it.
 #![tactic(auto)]
 
-ghost use Rattle.std.specs.Prelude.{◌≡◌, ◌≤◌, length, take, true, IfOk};
+ghost use Rattle.std.specs.Prelude.{◌≡◌, ◌≤◌, length, take, true, IfOk, OnErr};
 ghost use Rattle.tables.specs.Lent.{tables};
-ghost use Rattle.frame.specs.Reading.{Taken};
+ghost use Rattle.frame.specs.Reading.{Taken, read_end};
+ghost use Rattle.frames.specs.Stopped.{Stopped, Failed};
 
 use frame::{Frame, Request};
 use std::io;
@@ -62,6 +63,9 @@ fn serve_piece<W: Write>(
     ensures taken { IfOk result (λ s. Taken true
         (tables sizes.old words.old mem.old) (take kept line.old) piece.now
         (tables sizes.new words.new mem.new) (take s.kept line.new)) }
+    ensures stopped { OnErr result (Stopped
+        (tables sizes.old words.old mem.old) (take kept line.old) piece.now
+        (tables sizes.new words.new mem.new) line.new) }
 {
     let mut s = State::new(kept);
     let mut i = 0;
@@ -87,7 +91,8 @@ fn serve_end<W: Write>(
     out: &mut [u8],
     kept: usize,
 ) -> io::Result<State>
-    ensures { IfOk result (λ s. s.kept ≡ 0) }
+    ensures kept { IfOk result (λ s. s.kept ≡ 0) }
+    ensures store { tables sizes.new words.new mem.new ≡ (read_end line.old kept out.old (tables sizes.old words.old mem.old)).store }
 {
     let p = frame::serve_end(sizes, words, mem, line, out, kept);
     write(to, out, p.written)?;
@@ -107,7 +112,10 @@ fn serve_some<R: Read, W: Write>(
     kept: usize,
 ) -> io::Result<State>
     requires { (length line.old ≡ 8193) × ((65537 ≤ length out.old) × ((kept ≤ 8193) × (length input.old ≤ 65536))) }
-    ensures { IfOk result (λ s. s.kept ≤ 8193) }
+    ensures kept_bound { IfOk result (λ s. s.kept ≤ 8193) }
+    ensures failed { OnErr result (Failed
+        (tables sizes.old words.old mem.old) line.old kept out.old input.new
+        (tables sizes.new words.new mem.new) line.new) }
 {
     let n = from.read(input)?;
     if n == 0 {

@@ -17,5 +17,5 @@ pub record Stopped (st : Store) (l t : List ℕ) (left : Store) (line : List ℕ
 -- the read failed; or a write did, of the answers to what was read, or of the last one
 pub data Failed (st : Store) (line : List ℕ) (kept : ℕ) (out input : List ℕ) (left : Store) (after : List ℕ) : Type 0 where
   unread : left ≡ st → after ≡ line → Failed st line kept out input left after
-  unanswered : (n : ℕ) → Stopped st (take kept line) (take n input) left after → Failed st line kept out input left after
+  unanswered : (n : ℕ) → n ≤ length input → Stopped st (take kept line) (take n input) left after → Failed st line kept out input left after
   unended : left ≡ (read_end line kept out st).store → Failed st line kept out input left after

@@ -120,7 +120,7 @@ fn put_seek(
     at: usize,
 ) -> usize
     requires { Seeks (geometry_of g) sizes.now words.now f reply.old at }
-    ensures { (m : List ℕ) → Written (seek_reply (geometry_of g) (record { sizes = sizes.entry.now; words = words.now; mem = m }) f off what)
+    ensures { (m : List ℕ) → Written (seek_reply (geometry_of g) (record { sizes = sizes.now; words = words.now; mem = m }) f off what)
         12 at reply.old reply.new result }
 {
     let size = sizes[f];
@@ -140,7 +140,7 @@ fn put_file_attrs(
     at: usize,
 ) -> usize
     requires { AttrsKnown (geometry_of g) sizes.now words.now counts.old f reply.old at }
-    ensures { (m : List ℕ) → Viewed (attrs_reply (file_attrs (geometry_of g) (record { sizes = sizes.entry.now; words = words.now; mem = m }) f) (asks a))
+    ensures { (m : List ℕ) → Viewed (attrs_reply (file_attrs (geometry_of g) (record { sizes = sizes.now; words = words.now; mem = m }) f) (asks a))
         at reply.old reply.new result counts.old counts.new }
 {
     let b = g.block_size;

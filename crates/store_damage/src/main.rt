@@ -148,47 +148,16 @@ fn block_sizes<W: Write>(to: &mut W) -> io::Result<()> {
 
 // The tables cut by one each.
 fn lengths<W: Write>(to: &mut W) -> io::Result<()> {
+    let g = small();
     let sizes = [0u64; 2];
     let words = [0u32; 8];
     let mem = [0u8; 2048];
     let page = [0u8; 512];
-    tell(to, b"whole", small(), &sizes, &words, &mem, &page)?;
-    tell(
-        to,
-        b"sizes-short",
-        small(),
-        &sizes[..1],
-        &words,
-        &mem,
-        &page,
-    )?;
-    tell(
-        to,
-        b"words-short",
-        small(),
-        &sizes,
-        &words[..7],
-        &mem,
-        &page,
-    )?;
-    tell(
-        to,
-        b"memory-short",
-        small(),
-        &sizes,
-        &words,
-        &mem[..2047],
-        &page,
-    )?;
-    tell(
-        to,
-        b"page-short",
-        small(),
-        &sizes,
-        &words,
-        &mem,
-        &page[..511],
-    )
+    tell(to, b"whole", g, &sizes, &words, &mem, &page)?;
+    tell(to, b"sizes-short", g, &sizes[..1], &words, &mem, &page)?;
+    tell(to, b"words-short", g, &sizes, &words[..7], &mem, &page)?;
+    tell(to, b"memory-short", g, &sizes, &words, &mem[..2047], &page)?;
+    tell(to, b"page-short", g, &sizes, &words, &mem, &page[..511])
 }
 
 // One file with these three slot words and this size. The blocks' first bytes are 11, 22, 33 and 44; the last byte of

@@ -18,37 +18,14 @@ use Rattle.wire.specs.Status.{number_of}
 use Rattle.compound.specs.declared.check.Context.{Context}
 use Rattle.compound.specs.declared.reads.View.{View}
 use Rattle.compound.specs.declared.does.Does as Code
-use Rattle.compound.specs.Runner.{file_in, state_of}
-
--- the status number of an answer, 0 where there is no error
-abbrev pub first_of : {A : Type 0} → Result A Status → ℕ
-first_of (Ok _) = 0
-first_of (Err e) = number_of e
+use Rattle.compound.specs.Runner.{file_in, state_of, first_of}
+use Rattle.compound.specs.Shown.{view_bytes, edit_bytes}
 
 abbrev pub store_in : Context → Store
 store_in c = tables c.sizes.now c.words.now c.memory.now
 
 abbrev pub state_in : Context → State
 state_in c = state_of c.handles (store_in c)
-
--- the bytes that a view shows of file f
-abbrev pub view_bytes : Geometry → Store → ℕ → View → List ℕ
-view_bytes g st f (View.Attrs a) = attrs_reply (file_attrs g st f) (asks a)
-view_bytes g st f View.Handle = opaque (u32 f)
-view_bytes g st f (View.Read a) = read_reply g st f a.offset a.count
-view_bytes g st f (View.ReadPlus a) = read_plus_reply g st f a.offset a.count
-view_bytes g st f (View.Seek a) = seek_reply g st f a.offset a.count
-
--- the body of the result of an act on n bytes, from the verifier
-abbrev pub act_bytes : Act → ℕ → List ℕ → List ℕ
-act_bytes Act.Write n v = write_reply n v
-act_bytes (Act.Copy s) n v = copy_reply n v
-act_bytes (Act.Clone s) n v = []
-act_bytes Act.Allocate n v = []
-act_bytes Act.Deallocate n v = []
-
-abbrev pub edit_bytes : Edit → List ℕ → List ℕ
-edit_bytes e v = act_bytes e.act (e.end - e.off) v
 
 abbrev pub does_of : Context → Code.Does → Does
 does_of c (Code.Does.Sets h) = sets (file_in h.current) (file_in h.saved)

@@ -51,7 +51,8 @@ impl Context<'_> {
     ghost use Rattle.rules.specs.Store.{size_of};
     ghost use Rattle.wire.specs.Status.{number_of};
     ghost use Rattle.wire.specs.Decoded.{meaning};
-    ghost use Rattle.compound.specs.Does.{first_of, store_in, first_pair, Paired, Checked};
+    ghost use Rattle.compound.specs.Runner.{first_of};
+    ghost use Rattle.compound.specs.Does.{store_in, first_pair, Paired, Checked};
 
     fn current(&self) -> Result<usize, Status>
         ensures { result ≡ ok_or self.now.handles.current Status.NoFileHandle }

@@ -1,15 +1,15 @@
 // The compound runner: operations run and answered.
 #![tactic(auto)]
 
-mod answer;
 mod check;
 mod does;
 mod edits;
 mod handles;
+mod lent;
 mod pieces;
 mod reads;
 mod run;
-mod serving;
+mod served;
 mod stateid;
 
-pub use serving::{Served, serve};
+pub use served::{Refused, Served};

@@ -1,110 +1,101 @@
 // A file's bytes as they are answered, and the pieces of READ_PLUS.
-ghost use Rattle.std.specs.Prelude.{List, ℕ, ◌+◌, ◌≤◌, length};
-ghost use Rattle.xdr.specs.Bytes.{Written};
-ghost use Rattle.xdr.specs.Encode.{opaque, opaque_size};
+ghost use Rattle.std.specs.Prelude.{◌≡◌, ◌+◌, ◌*◌, ◌<◌, ◌≤◌, length};
+ghost use Rattle.xdr.specs.Bytes.{splice};
+ghost use Rattle.xdr.specs.Encode.{opaque, opaque_size, concat_map};
+ghost use Rattle.xdr.specs.Writing.{Wrote, HasRoom};
 ghost use Rattle.tables.specs.Lent.{geometry_of};
 ghost use Rattle.rules.specs.Store.{bytes_from};
-ghost use Rattle.rules.specs.Operation.{data_piece, piece_bytes};
-ghost use Rattle.store.specs.Readable.{Readable, piece_at};
-ghost use Rattle.compound.specs.Pieces.{PieceFits, PiecesFit, PiecesPut, piece_size};
+ghost use Rattle.rules.specs.Operation.{piece_bytes};
+ghost use Rattle.store.specs.Readable.{piece_at};
+ghost use Rattle.compound.specs.Whole.{whole};
+ghost use Rattle.compound.specs.Pieces.{piece_size, pieces_size, pieces_to};
 
-use tables::Geometry;
+use crate::lent::Store;
+use xdr::Writer;
 
-// How many pieces were written, and the place after them.
-#[derive(Clone, Copy)]
-pub struct Pieces {
-    pub count: u32,
-    pub next: usize,
+// The file's n bytes from `from` on into those of `out` from `at` on.
+#[tactic(auto, unfolding(xdr::specs::Bytes::splice))]
+fn read_part(store: &Store<'_, '_>, file: usize, from: usize, n: usize, out: &mut [u8], at: usize)
+    requires file { file < store.now.geometry.files }
+    requires fits { from + n ≤ store.now.geometry.slots * store.now.geometry.block_size }
+    requires room { at + n ≤ length out.old }
+    ensures { out.new ≡ splice out.old at (bytes_from (geometry_of store.now.geometry) (whole store.now) file from n) }
+{
+    store.read(file, from, &mut out[at..at + n]);
 }
 
-// The file's n bytes from place i on, as opaque data: read into the place where they are answered.
+// The same where the writer stands.
+fn put_bytes(store: &Store<'_, '_>, file: usize, from: usize, n: usize, w: &mut Writer<'_>)
+    requires file { file < store.now.geometry.files }
+    requires fits { from + n ≤ store.now.geometry.slots * store.now.geometry.block_size }
+    requires room { HasRoom n w.old }
+    ensures { Wrote (bytes_from (geometry_of store.now.geometry) (whole store.now) file from n) w.old w.new }
+{
+    let at = w.at;
+    let out = &mut *w.out;
+    read_part(store, file, from, n, out, at);
+    w.at = at + n;
+}
+
+// The file's n bytes from `from` on as opaque data: read into the place where they are answered.
+#[tactic(auto, using(xdr::proofs::EncodeLaws::lengths), unfolding(xdr::specs::Encode::opaque))]
 pub fn put_file_bytes(
-    g: Geometry,
-    words: &[u32],
-    mem: &[u8],
-    f: usize,
-    i: usize,
+    store: &Store<'_, '_>,
+    file: usize,
+    from: usize,
     n: usize,
-    out: &mut [u8],
-    at: usize,
-) -> usize
-    requires { Readable (geometry_of g) words.now mem.now f (i + n) × (at + opaque_size n ≤ length out.old) }
-    ensures { (sizes : List ℕ)
-        → Written (opaque (bytes_from (geometry_of g) (record { sizes = sizes; words = words.now; mem = mem.now }) f i n))
-        (opaque_size n) at out.old out.new result }
+    w: &mut Writer<'_>,
+)
+    requires file { file < store.now.geometry.files }
+    requires fits { from + n ≤ store.now.geometry.slots * store.now.geometry.block_size }
+    requires room { HasRoom (opaque_size n) w.old }
+    ensures { Wrote (opaque (bytes_from (geometry_of store.now.geometry) (whole store.now) file from n)) w.old w.new }
 {
-    let start = xdr::put_u32(out, at, n as u32);
-    let end = start + n;
-    store::read_bytes(g, words, mem, f, i, &mut out[start..end]);
-    xdr::put_zeros(out, end, xdr::padding(n))
+    w.u32(n as u32);
+    put_bytes(store, file, from, n, w);
+    w.zeros(xdr::padding(n));
 }
 
-// The same as a piece of data.
-fn put_data(
-    g: Geometry,
-    words: &[u32],
-    mem: &[u8],
-    f: usize,
-    i: usize,
-    n: usize,
-    out: &mut [u8],
-    at: usize,
-) -> usize
-    requires { Readable (geometry_of g) words.now mem.now f (i + n) × (at + (4 + (8 + opaque_size n)) ≤ length out.old) }
-    ensures { (sizes : List ℕ)
-        → Written (data_piece.write (0, (i, bytes_from (geometry_of g) (record { sizes = sizes; words = words.now; mem = mem.now }) f i n)))
-        (4 + (8 + opaque_size n)) at out.old out.new result }
+// The file's n bytes from `from` on, all hole or all data as the first is.
+#[tactic(auto, using(xdr::proofs::EncodeLaws::lengths))]
+fn put_piece(store: &Store<'_, '_>, file: usize, from: usize, n: usize, w: &mut Writer<'_>)
+    requires file { file < store.now.geometry.files }
+    requires some { 0 < n }
+    requires fits { from + n ≤ store.now.geometry.slots * store.now.geometry.block_size }
+    requires room { HasRoom (piece_size (piece_at (geometry_of store.now.geometry) (whole store.now).words file from n)) w.old }
+    ensures { Wrote (piece_bytes (geometry_of store.now.geometry) (whole store.now) file
+        (piece_at (geometry_of store.now.geometry) (whole store.now).words file from n)) w.old w.new }
 {
-    let data = wire::put_data_head(out, at, i as u64);
-    put_file_bytes(g, words, mem, f, i, n, out, data)
-}
-
-// The file's n bytes from place i on, all hole or all data as place i is.
-fn put_piece(
-    g: Geometry,
-    words: &[u32],
-    mem: &[u8],
-    f: usize,
-    i: usize,
-    n: usize,
-    out: &mut [u8],
-    at: usize,
-) -> usize
-    requires { PieceFits (geometry_of g) words.now mem.now f i n at (length out.old) }
-    ensures { (sizes : List ℕ)
-        → Written (piece_bytes (geometry_of g) (record { sizes = sizes; words = words.now; mem = mem.now }) f (piece_at (geometry_of g) words.now f i n))
-        (piece_size (piece_at (geometry_of g) words.now f i n)) at out.old out.new result }
-{
-    if store::hole_at(g, words, f, i) {
-        return wire::put_hole(out, at, i as u64, n as u64);
+    if store.hole_at(file, from) {
+        wire::put_hole(w, from as u64, n as u64);
+    } else {
+        wire::put_data_head(w, from as u64);
+        put_file_bytes(store, file, from, n, w);
     }
-    put_data(g, words, mem, f, i, n, out, at)
 }
 
-// The pieces of the file from off up to end, one after the other, at place `at` of out.
+// The pieces of the file from `from` up to `end`, one after the other; how many they are.
 pub fn put_pieces(
-    g: Geometry,
-    words: &[u32],
-    mem: &[u8],
-    f: usize,
-    off: usize,
+    store: &Store<'_, '_>,
+    file: usize,
+    from: usize,
     end: usize,
-    out: &mut [u8],
-    at: usize,
-) -> Pieces
-    requires { PiecesFit (geometry_of g) words.now mem.now f off end at (length out.old) }
-    ensures { (sizes : List ℕ)
-        → PiecesPut (geometry_of g) (record { sizes = sizes; words = words.now; mem = mem.now }) f off end at
-        out.old out.new result.count result.next }
+    w: &mut Writer<'_>,
+) -> u32
+    requires file { file < store.now.geometry.files }
+    requires fits { end ≤ store.now.geometry.slots * store.now.geometry.block_size }
+    requires room { HasRoom (pieces_size (pieces_to (geometry_of store.now.geometry) (whole store.now) file from end)) w.old }
+    ensures number { result ≡ length (pieces_to (geometry_of store.now.geometry) (whole store.now) file from end) }
+    ensures written { Wrote (concat_map (piece_bytes (geometry_of store.now.geometry) (whole store.now) file)
+        (pieces_to (geometry_of store.now.geometry) (whole store.now) file from end)) w.old w.new }
 {
-    let mut i = off;
-    let mut count: u32 = 0;
-    let mut next = at;
-    while i < end {
-        let stop = store::piece_end(g, words, f, i, end);
-        next = put_piece(g, words, mem, f, i, stop - i, out, next);
+    let mut start = from;
+    let mut count = 0;
+    while start < end {
+        let stop = store.piece_end(file, start, end);
+        put_piece(store, file, start, stop - start, w);
         count += 1;
-        i = stop;
+        start = stop;
     }
-    Pieces { count, next }
+    count
 }

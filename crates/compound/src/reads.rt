@@ -1,19 +1,19 @@
-// What GETATTR, GETFH, READ, READ_PLUS and SEEK show: the bodies, and the result.
-ghost use Rattle.std.specs.Prelude.{◌≡◌, List, ℕ, ◌+◌, ◌-◌, ◌^◌, ◌<◌, ◌≤◌, min, length, leb};
-ghost use Rattle.xdr.specs.Bytes.{Written};
+// What GETATTR, GETFH, READ, READ_PLUS and SEEK show of a file: the bodies of their results.
+ghost use Rattle.std.specs.Prelude.{◌≡◌, ◌+◌, ◌<◌, leb};
 ghost use Rattle.xdr.specs.Encode.{u32, opaque};
-ghost use Rattle.tables.specs.Lent.{geometry_of, tables};
-ghost use Rattle.rules.specs.Read.{granted};
+ghost use Rattle.xdr.specs.Writing.{Wrote, HasRoom};
+ghost use Rattle.tables.specs.Lent.{geometry_of};
 ghost use Rattle.rules.specs.Attributes.{file_attrs};
+ghost use Rattle.rules.specs.Read.{granted};
 ghost use Rattle.rules.specs.Operation.{attrs_reply, read_reply, read_plus_reply, seek_reply};
 ghost use Rattle.wire.specs.Attrs.{asks};
-ghost use Rattle.compound.specs.Runner.{state_of, Shows, Seeks, AttrsKnown, Runs, Views, Viewed, Showed};
-ghost use Rattle.compound.specs.Does.{view_bytes};
+ghost use Rattle.compound.specs.Whole.{whole, KeepsWhole};
+ghost use Rattle.compound.specs.Shown.{view_bytes};
 
-use crate::answer::{Answer, Position};
+use crate::lent::Store;
 use crate::pieces::{put_file_bytes, put_pieces};
-use tables::Geometry;
-use wire::{Asked, FileAttrs, Operation, ReadArgs, Status, put_result};
+use wire::{Asked, FileAttrs, Operation, ReadArgs};
+use xdr::Writer;
 
 // The bytes granted of n asked for.
 fn grant(n: u32) -> u64
@@ -30,110 +30,79 @@ fn reaches(size: u64, off: u64, n: u64) -> bool
 }
 
 // READ's body: eof, data.
-fn put_read(
-    g: Geometry,
-    sizes: &[u64],
-    words: &[u32],
-    mem: &[u8],
-    f: usize,
-    off: u64,
-    n: u32,
-    reply: &mut [u8],
-    at: usize,
-) -> usize
-    requires { Shows (geometry_of g) (tables sizes.now words.now mem.now) f reply.old at }
-    ensures { Written (read_reply (geometry_of g) (tables sizes.now words.now mem.now) f off n)
-        (length (read_reply (geometry_of g) (tables sizes.now words.now mem.now) f off n)) at reply.old reply.new result }
+fn put_read(store: &Store<'_, '_>, file: usize, args: ReadArgs, w: &mut Writer<'_>)
+    requires file { file < store.now.geometry.files }
+    requires room { HasRoom 2171 w.old }
+    ensures { Wrote (read_reply (geometry_of store.now.geometry) (whole store.now) file args.offset args.count) w.old w.new }
 {
-    let size = sizes[f];
-    let data = xdr::put_bool(reply, at, reaches(size, off, grant(n)));
-    let m = grant(n).min(size.saturating_sub(off));
-    if m == 0 {
-        return xdr::put_u32(reply, data, 0);
+    let size = store.sizes[file];
+    let granted = grant(args.count);
+    w.boolean(reaches(size, args.offset, granted));
+    let n = granted.min(size.saturating_sub(args.offset));
+    if n == 0 {
+        w.u32(0);
+    } else {
+        put_file_bytes(store, file, args.offset as usize, n as usize, w);
     }
-    put_file_bytes(g, words, mem, f, off as usize, m as usize, reply, data)
 }
 
 // READ_PLUS's body: eof, the number of pieces, the pieces. They are counted as they are written.
-fn put_read_plus(
-    g: Geometry,
-    sizes: &[u64],
-    words: &[u32],
-    mem: &[u8],
-    f: usize,
-    off: u64,
-    n: u32,
-    reply: &mut [u8],
-    at: usize,
-) -> usize
-    requires { Shows (geometry_of g) (tables sizes.now words.now mem.now) f reply.old at }
-    ensures { Written (read_plus_reply (geometry_of g) (tables sizes.now words.now mem.now) f off n)
-        (length (read_plus_reply (geometry_of g) (tables sizes.now words.now mem.now) f off n)) at reply.old reply.new result }
+fn put_read_plus(store: &Store<'_, '_>, file: usize, args: ReadArgs, w: &mut Writer<'_>)
+    requires file { file < store.now.geometry.files }
+    requires room { HasRoom 2171 w.old }
+    ensures { Wrote (read_plus_reply (geometry_of store.now.geometry) (whole store.now) file args.offset args.count) w.old w.new }
 {
-    let size = sizes[f];
-    let number = xdr::put_bool(reply, at, reaches(size, off, grant(n)));
-    let end = off.saturating_add(grant(n)).min(size) as usize;
-    let p = put_pieces(g, words, mem, f, off as usize, end, reply, number + 4);
-    xdr::put_u32(reply, number, p.count);
-    p.next
+    let size = store.sizes[file];
+    let granted = grant(args.count);
+    w.boolean(reaches(size, args.offset, granted));
+    let place = w.at;
+    w.u32(0);
+    let end = args.offset.saturating_add(granted).min(size);
+    let count = put_pieces(store, file, args.offset as usize, end as usize, w);
+    w.set_u32(place, count);
 }
 
-// SEEK's body: eof, the place. It depends on sizes and words alone.
-fn put_seek(
-    g: Geometry,
-    sizes: &[u64],
-    words: &[u32],
-    f: usize,
-    off: u64,
-    what: u32,
-    reply: &mut [u8],
-    at: usize,
-) -> usize
-    requires { Seeks (geometry_of g) sizes.now words.now f reply.old at }
-    ensures { (m : List ℕ) → Written (seek_reply (geometry_of g) (record { sizes = sizes.now; words = words.now; mem = m }) f off what)
-        12 at reply.old reply.new result }
+// SEEK's body: eof, the place.
+#[tactic(auto, unfolding(rules::specs::Operation::seek_reply))]
+fn put_seek(store: &Store<'_, '_>, file: usize, args: ReadArgs, w: &mut Writer<'_>)
+    requires file { file < store.now.geometry.files }
+    requires room { HasRoom 2171 w.old }
+    ensures { Wrote (seek_reply (geometry_of store.now.geometry) (whole store.now) file args.offset args.count) w.old w.new }
 {
-    let size = sizes[f];
-    let p = store::seek_file(g, words, size, f, what == 1, off);
-    wire::put_sought(reply, at, p == size, p)
+    let place = store.seek_file(file, args.count == 1, args.offset);
+    wire::put_sought(w, place == store.sizes[file], place);
 }
 
-// GETATTR's body: the attributes that are asked for. It depends on sizes and words alone.
-fn put_file_attrs(
-    g: Geometry,
-    sizes: &[u64],
-    words: &[u32],
-    counts: &mut [u32],
-    f: usize,
-    a: Asked,
-    reply: &mut [u8],
-    at: usize,
-) -> usize
-    requires { AttrsKnown (geometry_of g) sizes.now words.now counts.old f reply.old at }
-    ensures { (m : List ℕ) → Viewed (attrs_reply (file_attrs (geometry_of g) (record { sizes = sizes.now; words = words.now; mem = m }) f) (asks a))
-        at reply.old reply.new result counts.old counts.new }
+// GETATTR's body: the attributes that are asked for.
+fn put_file_attrs(store: &mut Store<'_, '_>, file: usize, asked: Asked, w: &mut Writer<'_>)
+    requires file { file < store.old.geometry.files }
+    requires room { HasRoom 2171 w.old }
+    ensures wrote { Wrote (attrs_reply (file_attrs (geometry_of store.old.geometry) (whole store.old) file) (asks asked)) w.old w.new }
+    ensures same { whole store.new ≡ whole store.old }
+    ensures keeps { KeepsWhole store.old store.new }
 {
-    let b = g.block_size;
-    let room = tables::file_space(g, words, counts, f);
-    let v = FileAttrs {
-        size: sizes[f],
-        space_used: (b * room.used) as u64,
-        clone_blksize: b as u32,
-        space_freed: (b * room.freed) as u64,
+    let block_size = store.geometry.block_size;
+    let space = store.space(file);
+    let attrs = FileAttrs {
+        size: store.sizes[file],
+        space_used: (block_size * space.used) as u64,
+        clone_blksize: block_size as u32,
+        space_freed: (block_size * space.freed) as u64,
     };
-    wire::put_attrs(reply, at, a, v)
+    wire::put_attrs(w, asked, attrs);
 }
 
 // GETFH's body: the handle as opaque data.
-fn put_handle(reply: &mut [u8], at: usize, f: usize) -> usize
-    requires { (f < 2 ^ 32) × (at + 8 ≤ length reply.old) }
-    ensures { Written (opaque (u32 f)) 8 at reply.old reply.new result }
+#[tactic(auto, unfolding(xdr::specs::Encode::u32, xdr::specs::Encode::be))]
+fn put_handle(file: usize, w: &mut Writer<'_>)
+    requires file { file < 64 }
+    requires room { HasRoom 2171 w.old }
+    ensures { Wrote (opaque (u32 file)) w.old w.new }
 {
-    let number = xdr::put_u32(reply, at, 4);
-    xdr::put_u32(reply, number, f as u32)
+    w.opaque(&(file as u32).to_be_bytes());
 }
 
-// What a result shows of the current file. SEEK's `count` is the kind that is asked for.
+// What a result shows of a file. SEEK's `count` is the kind that is asked for.
 #[derive(Clone, Copy)]
 pub enum View {
     Attrs(Asked),
@@ -143,56 +112,19 @@ pub enum View {
     Seek(ReadArgs),
 }
 
-// The body that shows it of file f. The table of holders is afterwards as it was.
-fn put_view(
-    g: Geometry,
-    sizes: &[u64],
-    words: &[u32],
-    mem: &[u8],
-    counts: &mut [u32],
-    f: usize,
-    v: View,
-    reply: &mut [u8],
-    at: usize,
-) -> usize
-    requires { Views (geometry_of g) (tables sizes.now words.now mem.now) counts.old f reply.old at }
-    ensures { Viewed (view_bytes (geometry_of g) (tables sizes.now words.now mem.now) f v)
-        at reply.old reply.new result counts.old counts.new }
+// The body that shows it.
+pub fn show(store: &mut Store<'_, '_>, file: usize, view: View, w: &mut Writer<'_>)
+    requires file { file < store.old.geometry.files }
+    requires room { HasRoom 2171 w.old }
+    ensures wrote { Wrote (view_bytes (geometry_of store.old.geometry) (whole store.old) file view) w.old w.new }
+    ensures same { whole store.new ≡ whole store.old }
+    ensures keeps { KeepsWhole store.old store.new }
 {
-    match v {
-        View::Attrs(a) => put_file_attrs(g, sizes, words, counts, f, a, reply, at),
-        View::Handle => put_handle(reply, at, f),
-        View::Read(a) => put_read(g, sizes, words, mem, f, a.offset, a.count, reply, at),
-        View::ReadPlus(a) => put_read_plus(g, sizes, words, mem, f, a.offset, a.count, reply, at),
-        View::Seek(a) => put_seek(g, sizes, words, f, a.offset, a.count, reply, at),
-    }
-}
-
-// The result of an operation that shows file f.
-pub fn show(
-    g: Geometry,
-    sizes: &[u64],
-    words: &[u32],
-    mem: &[u8],
-    counts: &mut [u32],
-    number: u32,
-    f: usize,
-    v: View,
-    p: Position,
-    reply: &mut [u8],
-) -> Answer
-    requires runs { Runs (geometry_of g) (state_of p.handles (tables sizes.now words.now mem.now)) counts.old reply.old p.at }
-    requires file { f < g.files }
-    ensures { Showed number (view_bytes (geometry_of g) (tables sizes.now words.now mem.now) f v) p
-        result reply.old reply.new counts.old counts.new }
-{
-    let body = put_result(reply, p.at, number, Status::OK);
-    let at = put_view(g, sizes, words, mem, counts, f, v, reply, body);
-    Answer {
-        status: Status::OK,
-        after: Position {
-            handles: p.handles,
-            at,
-        },
+    match view {
+        View::Attrs(asked) => put_file_attrs(store, file, asked, w),
+        View::Handle => put_handle(file, w),
+        View::Read(args) => put_read(store, file, args, w),
+        View::ReadPlus(args) => put_read_plus(store, file, args, w),
+        View::Seek(args) => put_seek(store, file, args, w),
     }
 }

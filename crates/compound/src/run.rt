@@ -1,209 +1,166 @@
 // The operations of a compound, one after the other, up to the first that fails.
-ghost use Rattle.std.specs.Prelude.{◌≡◌, List, ℕ, ◌+◌, ◌<◌, ◌≤◌, length};
-ghost use Rattle.tables.specs.Lent.{geometry_of, tables};
-ghost use Rattle.tables.specs.Tables.{TableTrue};
-ghost use Rattle.rules.specs.Store.{Store};
-ghost use Rattle.rules.specs.Operation.{bad, items};
-ghost use Rattle.rules.specs.Fault.{NOWHERE, fault_at};
-ghost use Rattle.rules.specs.Run.{failed, perform, reached};
+ghost use Rattle.std.specs.Prelude.{◌≡◌, ℕ, ◌+◌, ◌≤◌, length};
+ghost use Rattle.xdr.specs.Writing.{HasRoom};
+ghost use Rattle.rules.specs.Operation.{items, item_at};
+ghost use Rattle.rules.specs.Fault.{fault_at};
+ghost use Rattle.rules.specs.Run.{perform, reached};
 ghost use Rattle.rules.specs.Calls.{fresh};
 ghost use Rattle.wire.specs.Decoded.{meaning};
-ghost use Rattle.compound.specs.Runner.{state_of, config_of, started, Runs, Answered, event_at, Turned, RunsAll, RanAll};
+ghost use Rattle.compound.specs.Whole.{whole, KeepsWhole};
+ghost use Rattle.compound.specs.Runner.{state_of, config_of, Named, Answered, event_of, Turned, RanAll};
 
-use crate::answer::{Answer, Position, without_body};
 use crate::check::Context;
 use crate::does::Does;
-use crate::edits::edited;
+use crate::edits::put_edit;
 use crate::handles::Handles;
+use crate::lent::Store;
 use crate::reads::show;
-use tables::Geometry;
-use wire::{Item, Operation, Status, item};
-use xdr::Cursor;
+use wire::{Operation, Status, item, put_result};
+use xdr::{Reader, Writer};
 
-// What the serving call is given beside the store, the request and the reply buffer.
-#[derive(Clone, Copy)]
-pub struct Config {
-    pub geometry: Geometry,
-    pub verifier: u64,
+// Why a run ends before its last operation: the status of one, and the place of its fault.
+#[derive(Clone, Copy, Debug, PartialEq, Eq)]
+pub struct Stop {
+    pub status: Status,
+    pub place: Option<usize>,
 }
 
-// Where a run stands: the last status, the operations reached, the next byte to read, the fault of the last operation, and the
-// position.
-#[derive(Clone, Copy)]
-pub struct Progress {
-    pub status: u32,
-    pub count: u32,
-    pub read: usize,
-    pub place: usize,
-    pub at: Position,
-}
-
-impl Progress {
-    // Before the first operation.
-    pub fn start(read: usize, out: usize) -> Self
-        ensures { result ≡ started read out }
+impl From<Status> for Stop {
+    fn from(status: Status) -> Self
+        ensures { result ≡ record { status = status; place = None } }
     {
-        Progress {
-            status: Status::OK,
-            count: 0,
-            read,
-            place: Item::NOWHERE,
-            at: Position {
-                handles: Handles {
-                    current: None,
-                    saved: None,
-                },
-                at: out,
-            },
+        Stop {
+            status,
+            place: None,
         }
     }
 }
 
-// One operation, run and answered: its errors, what it does, its result.
-fn operation(
-    c: Config,
-    sizes: &mut [u64],
-    words: &mut [u32],
-    mem: &mut [u8],
-    counts: &mut [u32],
-    s: &[u8],
-    o: Operation,
-    p: Position,
-    reply: &mut [u8],
-) -> Answer
-    requires { Runs (geometry_of c.geometry) (state_of p.handles (tables sizes.old words.old mem.old)) counts.old reply.old p.at }
-    ensures { (next : ℕ) → Answered
-        (perform (config_of c) (state_of p.handles (tables sizes.old words.old mem.old)) (meaning s.now o) next)
-        result (tables sizes.new words.new mem.new) counts.new p.at reply.old reply.new }
+// How a run ended: the status of the last operation, how many were reached, and the place of the last one's fault.
+#[derive(Clone, Copy, Debug, PartialEq, Eq)]
+pub struct Ended {
+    pub status: Status,
+    pub count: u32,
+    pub place: Option<usize>,
+}
+
+// One operation, run and answered: the handles after it, or its error.
+fn perform(
+    store: &mut Store<'_, '_>,
+    verifier: u64,
+    request: &[u8],
+    operation: Operation,
+    handles: Handles,
+    w: &mut Writer<'_>,
+) -> Result<Handles, Status>
+    requires named { Named store.old.geometry.files handles }
+    requires room { HasRoom 2179 w.old }
+    ensures answered { (next : ℕ) → Answered
+        (perform (config_of store.old.geometry verifier) (state_of handles (whole store.old)) (meaning request.now operation) next)
+        handles result (whole store.new) w.old w.new }
+    ensures keeps { KeepsWhole store.old store.new }
 {
-    let g = c.geometry;
-    let k = o.number();
+    let number = operation.number();
     let context = Context {
-        geometry: g,
-        sizes,
-        words,
-        memory: mem,
-        request: s,
-        handles: p.handles,
+        geometry: store.geometry,
+        sizes: store.sizes(),
+        words: store.words(),
+        memory: store.memory(),
+        request,
+        handles,
     };
-    match context.check(o) {
-        Err(status) => without_body(k, status.number(), p, reply),
-        Ok(Does::Sets(handles)) => without_body(
-            k,
-            Status::OK,
-            Position { handles, at: p.at },
-            reply,
-        ),
-        Ok(Does::Shows(f, v)) => show(g, sizes, words, mem, counts, k, f, v, p, reply),
-        Ok(Does::Edits(e, d)) => {
-            let done = store::apply(g, sizes, words, mem, counts, e, xdr::part(s, d));
-            edited(done, k, e, c.verifier, p, reply)
+    match context.check(operation) {
+        Err(status) => {
+            put_result(w, number, status);
+            Err(status)
+        }
+        Ok(Does::Sets(after)) => {
+            put_result(w, number, Status::Ok);
+            Ok(after)
+        }
+        Ok(Does::Shows(file, view)) => {
+            put_result(w, number, Status::Ok);
+            show(store, file, view, w);
+            Ok(handles)
+        }
+        Ok(Does::Edits(edit, data)) => {
+            if store.apply(edit, xdr::part(request, data)).is_err() {
+                put_result(w, number, Status::NoSpace);
+                return Err(Status::NoSpace);
+            }
+            put_result(w, number, Status::Ok);
+            put_edit(edit, verifier, w);
+            Ok(handles)
         }
     }
 }
 
-// The operation o, behind which r goes on to read.
+// What stands at the reader's place, run and answered. What is not counted is not passed.
 fn step(
-    c: Config,
-    sizes: &mut [u64],
-    words: &mut [u32],
-    mem: &mut [u8],
-    counts: &mut [u32],
-    s: &[u8],
-    o: Operation,
-    r: Progress,
-    reply: &mut [u8],
-) -> Progress
-    requires { Runs (geometry_of c.geometry) (state_of r.at.handles (tables sizes.old words.old mem.old)) counts.old reply.old r.at.at × (r.count < 12) }
-    ensures { Turned (perform (config_of c) (state_of r.at.handles (tables sizes.old words.old mem.old)) (meaning s.now o) r.read) NOWHERE
-        r result (tables sizes.new words.new mem.new) counts.new reply.old reply.new }
+    store: &mut Store<'_, '_>,
+    verifier: u64,
+    reader: &mut Reader<'_>,
+    handles: Handles,
+    w: &mut Writer<'_>,
+) -> Result<Handles, Stop>
+    requires named { Named store.old.geometry.files handles }
+    requires room { HasRoom 2179 w.old }
+    ensures turned { Turned
+        (event_of (config_of store.old.geometry verifier) (state_of handles (whole store.old)) (item_at reader.old.bytes.now reader.old.at))
+        (fault_at reader.old.bytes.now reader.old.at) reader.old.at handles result reader.new.at (whole store.new) w.old w.new }
+    ensures bytes { reader.new.bytes ≡ reader.old.bytes }
+    ensures keeps { KeepsWhole store.old store.new }
 {
-    let p = r.at;
-    let a = operation(c, sizes, words, mem, counts, s, o, p, reply);
-    let at = a.after;
-    Progress {
-        status: a.status,
-        count: r.count + 1,
-        read: r.read,
-        place: Item::NOWHERE,
-        at,
-    }
-}
-
-// The result of what does not decode: number and status; and the place of its fault.
-fn stop(number: u32, status: u32, place: usize, r: Progress, reply: &mut [u8]) -> Progress
-    requires { (r.at.at + 8 ≤ length reply.old) × (r.count < 12) }
-    ensures { (st : Store) (counts : List ℕ) → TableTrue st.words counts
-        → Turned (failed (bad number status) (state_of r.at.handles st) status) place
-        r result st counts reply.old reply.new }
-{
-    let p = r.at;
-    let a = without_body(number, status, p, reply);
-    let at = a.after;
-    Progress {
-        status,
-        count: r.count + 1,
-        read: r.read,
-        place,
-        at,
-    }
-}
-
-// What stands at the next place of the request.
-fn turn(
-    c: Config,
-    sizes: &mut [u64],
-    words: &mut [u32],
-    mem: &mut [u8],
-    counts: &mut [u32],
-    s: &[u8],
-    r: Progress,
-    reply: &mut [u8],
-) -> Progress
-    requires { Runs (geometry_of c.geometry) (state_of r.at.handles (tables sizes.old words.old mem.old)) counts.old reply.old r.at.at × (r.count < 12) }
-    ensures { Turned (event_at (config_of c) (state_of r.at.handles (tables sizes.old words.old mem.old)) s.now r.read) (fault_at s.now r.read)
-        r result (tables sizes.new words.new mem.new) counts.new reply.old reply.new }
-{
-    match item(s, Cursor::new(r.read)) {
-        Item::Op(o, next) => {
-            let at = r.at;
-            let read = next.at;
-            let moved = Progress {
-                status: r.status,
-                count: r.count,
-                read,
-                place: r.place,
-                at,
-            };
-            step(c, sizes, words, mem, counts, s, o, moved, reply)
+    let start = reader.at;
+    match item(reader) {
+        Ok(operation) => Ok(perform(store, verifier, reader.bytes, operation, handles, w)?),
+        Err(ending) => {
+            put_result(w, ending.number, ending.status);
+            let place = (ending.status == Status::BadXdr).then_some(reader.at);
+            reader.at = start;
+            Err(Stop {
+                status: ending.status,
+                place,
+            })
         }
-        Item::Bad(number, status) => stop(number, status, Item::NOWHERE, r, reply),
-        Item::Fault(number, place) => stop(number, Operation::BADXDR, place, r, reply),
     }
 }
 
-// At most `ops` operations from where r stands; their results go to its place of the reply.
+// At most so many operations from the reader's place on.
 pub fn run(
-    c: Config,
-    sizes: &mut [u64],
-    words: &mut [u32],
-    mem: &mut [u8],
-    counts: &mut [u32],
-    s: &[u8],
-    ops: u32,
-    start: Progress,
-    reply: &mut [u8],
-) -> Progress
-    requires { RunsAll (geometry_of c.geometry) (tables sizes.old words.old mem.old) counts.old ops reply.old start }
-    ensures { RanAll s.now (reached (config_of c) (fresh (tables sizes.old words.old mem.old)) (items s.now ops start.read))
-        (tables sizes.old words.old mem.old) start.read start.at.at result (tables sizes.new words.new mem.new) reply.old reply.new }
+    store: &mut Store<'_, '_>,
+    verifier: u64,
+    reader: &mut Reader<'_>,
+    operations: u32,
+    w: &mut Writer<'_>,
+) -> Ended
+    requires few { operations ≤ 12 }
+    requires room { HasRoom 26148 w.old }
+    ensures ran { RanAll 0 reader.old.bytes.now
+        (reached (config_of store.old.geometry verifier) (fresh (whole store.old)) (items reader.old.bytes.now operations reader.old.at))
+        (whole store.old) reader.old.at result reader.new.at (whole store.new) w.old w.new }
+    ensures bytes { reader.new.bytes ≡ reader.old.bytes }
+    ensures keeps { KeepsWhole store.old store.new }
 {
-    let mut r = start;
-    while r.count < ops {
-        r = turn(c, sizes, words, mem, counts, s, r, reply);
-        if r.status != Status::OK {
-            return r;
+    let mut handles = Handles {
+        current: None,
+        saved: None,
+    };
+    for turn in 0..operations {
+        match step(store, verifier, reader, handles, w) {
+            Ok(after) => handles = after,
+            Err(stop) => {
+                return Ended {
+                    status: stop.status,
+                    count: turn + 1,
+                    place: stop.place,
+                };
+            }
         }
     }
-    r
+    Ended {
+        status: Status::Ok,
+        count: operations,
+        place: None,
+    }
 }

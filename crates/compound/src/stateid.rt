@@ -5,23 +5,20 @@ ghost use Rattle.rules.specs.Run.{zero_stateid, read_stateid};
 
 use xdr::Span;
 
-const ZEROS: [u8; 16] = [0; 16];
+const ZEROS: &[u8] = &[0; 16];
 
-const ONES: [u8; 16] = [255; 16];
+const ONES: &[u8] = &[255; 16];
 
 // Whether the stateid at d in request s passes for an edit.
 pub fn zero_stateid(s: &[u8], d: Span) -> bool
     ensures { result ≡ zero_stateid (part_of s.now d) }
 {
-    wire::same_bytes(xdr::part(s, d), &ZEROS)
+    xdr::part(s, d) == ZEROS
 }
 
 // Whether it passes for reading, and as a source.
 pub fn read_stateid(s: &[u8], d: Span) -> bool
     ensures { result ≡ read_stateid (part_of s.now d) }
 {
-    if zero_stateid(s, d) {
-        return true;
-    }
-    wire::same_bytes(xdr::part(s, d), &ONES)
+    zero_stateid(s, d) || xdr::part(s, d) == ONES
 }

@@ -69,15 +69,12 @@ impl<'a> Reader<'a> {
         ensures value { parsed itself result self.new.at ≡ fixed_at n self.old.bytes.now self.old.at }
         ensures bytes { self.new.bytes ≡ self.old.bytes }
     {
-        let start = self.at;
         let end = self.bytes.len();
-        if end < start {
+        if end < self.at || end - self.at < n {
+            self.at = self.at.max(end);
             return None;
         }
-        if end - start < n {
-            self.at = end;
-            return None;
-        }
+        let start = self.at;
         self.at = start + n;
         Some(Span { start, len: n })
     }

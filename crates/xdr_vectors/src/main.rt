@@ -86,7 +86,7 @@ fn put_file(file: &mut [u8; 48]) {
 
 // The file read back: name, kind, interpreter, owner, data.
 fn show_file<W: Write>(to: &mut W, file: &[u8]) -> io::Result<()> {
-    let mut r = Reader { bytes: file, at: 0 };
+    let mut r = Reader::new(file);
     let name = r.opaque(255);
     show_part(to, name, r)?;
     let kind = r.up_to(2);

@@ -19,7 +19,8 @@ use Rattle.rules.proofs.SoundLaws.{sound-facts}
 use Rattle.store.specs.declared.edit.Act as Code
 use Rattle.store.specs.declared.edit.Source.{Source}
 use Rattle.store.specs.declared.edit.Edit as CodeEdit
-use Rattle.store.specs.Edits.{act_from, edit_from, ActKnown, Applies}
+use Rattle.store.specs.declared.edit.Kind as CodeKind
+use Rattle.store.specs.Edits.{act_from, edit_from, ActKnown, Applies, kind_from}
 use Rattle.store.specs.Planner.{SlotOf, KindIs}
 use Rattle.store.specs.SlotBytes.{Touched, SlotCopy}
 use Rattle.store.specs.Fill.{PlannedEdit, Fills, Filling, SlotFills, SlotOwns}
@@ -43,6 +44,15 @@ unfolding edit_bytes
 bytes_are g st e = refl
 
 -- ---- what is known of a planned edit
+
+-- a kind of the code that is another than Owns
+pub not_owned : (k : CodeKind.Kind) → (k ≡ CodeKind.Kind.Owns → ⊥) → is_owned (kind_from k) ≡ false
+not_owned CodeKind.Kind.Owns h = absurd (h refl)
+not_owned CodeKind.Kind.Given h = refl
+not_owned CodeKind.Kind.Cleared h = refl
+not_owned (CodeKind.Kind.Shares p) h = refl
+not_owned CodeKind.Kind.Reserved h = refl
+not_owned CodeKind.Kind.Stays h = refl
 
 -- where it is applied
 pub fills_known : {g : Geometry} {st : Store} {counts : List ℕ} {e : CodeEdit.Edit} {d : List ℕ} → Applies g st counts e d → e.off < e.end
@@ -201,13 +211,17 @@ module _ {g : Geometry} {st : Store} {e : CodeEdit.Edit} {d : List ℕ} {size : 
     cut_fills = fill-owned o (λ i. 0) (λ i l u. byte-is is i)
 
   -- CLONE and ALLOCATE give no slot a block of its own
-  pub clone-owns : {s : Source} → e.act ≡ Code.Act.Clone s → kind_of g st (edit_from e d) k ≡ owns → ⊥
+  clone-owns : {s : Source} → e.act ≡ Code.Act.Clone s → kind_of g st (edit_from e d) k ≡ owns → ⊥
   unfolding kind_of
   clone-owns is o = true≢false (sym (ap is_owned o) ∙ ap is_owned (kind-is is refl))
 
-  pub allocate-owns : e.act ≡ Code.Act.Allocate → kind_of g st (edit_from e d) k ≡ owns → ⊥
+  allocate-owns : e.act ≡ Code.Act.Allocate → kind_of g st (edit_from e d) k ≡ owns → ⊥
   unfolding kind_of
   allocate-owns is o = true≢false (sym (ap is_owned o) ∙ ap is_owned (kind-is is refl))
+
+  pub none-owns : ((s : Source) × (e.act ≡ Code.Act.Clone s)) ⊎ (e.act ≡ Code.Act.Allocate) → kind_of g st (edit_from e d) k ≡ owns → ⊥
+  none-owns (inl a) o = clone-owns a.1 o
+  none-owns (inr b) o = allocate-owns b o
 
   -- ---- by the kind
 

@@ -1,14 +1,15 @@
 -- What becomes of a slot: its kind, by the edit's act, and what a kind does to the slot words.
 use Prim.Native.Nat.{ℕ, suc, ◌+◌, ◌*◌, ◌/◌, ◌%◌, ◌≤◌, ◌<◌, ◌-◌}
 use mathlib.Core.Path.{◌≡◌, refl, sym, ap, ◌∙◌}
-use mathlib.Core.Bool.{Bool, true, false, cond, not, true≢false}
+use mathlib.Core.Bool.{Bool, true, false, cond, true≢false}
 use mathlib.Core.List.{List}
+use Rattle.std.specs.Prelude.{Ok}
 use native.Mathlib.Nat.{le_refl, mul-le-mul_right, div-add-mod'}
 use native.Mathlib.Omega.{arith}
 use lib.ListN.{length, get_or}
 use Rattle.rules.specs.Lists.{ceil_div}
 use Rattle.rules.specs.Store.{Geometry, Store, word, is_hole, lowest_free, used}
-use Rattle.rules.specs.Edit.{first_slot, slot_count, Kind, owns, given, cleared, shares, reserved, stays, goes_first, kind_of, become, owned, covers}
+use Rattle.rules.specs.Edit.{first_slot, slot_count, Kind, owns, given, cleared, shares, reserved, stays, kind_of, become, owned, covers}
 use Rattle.rules.proofs.GeometryLaws.{Good, good, block-pos, slots-all}
 use Rattle.rules.proofs.EditForms.{slots-behind}
 use Rattle.rules.proofs.SoundStore.{slots-fit, ceil-behind, Sound}
@@ -19,9 +20,8 @@ use Rattle.tables.specs.Tally.{first_zero}
 use Rattle.store.specs.declared.edit.Source.{Source}
 use Rattle.store.specs.declared.edit.Act as Code
 use Rattle.store.specs.declared.edit.Edit as CodeEdit
-use Rattle.store.specs.declared.edit.Search.{Search}
 use Rattle.store.specs.Edits.{edit_from, ActKnown, Applies}
-use Rattle.store.specs.Planner.{SourceIn, EditSlots, Plannable, SlotOf, SharesIn, CopyKindIs, SlotSeen, KindIs, index_of, NoBlock, SlotChanged, in_pass}
+use Rattle.store.specs.Planner.{SourceIn, EditSlots, Plannable, SlotOf, SharesIn, CopyKindIs, SlotSeen, KindIs, index_of, NoBlock, SlotChanged}
 
 -- ---- where the slots lie
 
@@ -128,28 +128,28 @@ module _ {g : Geometry} {e : CodeEdit.Edit} {size : ℕ} {ws : List ℕ} {k w : 
 
 module _ {ws cs : List ℕ} {i : ℕ} where
   pub changed-done : {c : Kind} {b : ℕ} {after cs' : List ℕ} → after ≡ become c ws i → TableTrue after cs' → b ≤ first_zero cs'
-      → SlotChanged c ws cs i (Search.From b) after cs'
+      → SlotChanged c ws cs i (Ok b) after cs'
   changed-done e k l = record { words_are = e; counted = k; searched = l; stopped = λ d. absurd (true≢false d) }
 
-  pub changed-stays : {from : ℕ} → TableTrue ws cs → from ≤ first_zero cs → SlotChanged stays ws cs i (Search.From from) ws cs
+  pub changed-stays : {from : ℕ} → TableTrue ws cs → from ≤ first_zero cs → SlotChanged stays ws cs i (Ok from) ws cs
   unfolding become
   changed-stays k low = changed-done refl k low
 
   -- a stored word may free a block, and the search begins at 0
   module _ {after cs' : List ℕ} where
-    pub changed-given : Stored ws i 0 after cs' → SlotChanged given ws cs i (Search.From 0) after cs'
+    pub changed-given : Stored ws i 0 after cs' → SlotChanged given ws cs i (Ok 0) after cs'
     unfolding become
     changed-given s = changed-done s.words_are s.counted (omega arith)
 
-    pub changed-cleared : Stored ws i (get_or ws i 0 % 2) after cs' → SlotChanged cleared ws cs i (Search.From 0) after cs'
+    pub changed-cleared : Stored ws i (get_or ws i 0 % 2) after cs' → SlotChanged cleared ws cs i (Ok 0) after cs'
     unfolding become
     changed-cleared s = let e : get_or ws i 0 % 2 ≡ word 0 (get_or ws i 0 % 2) = omega arith in changed-done (rw e at s.words_are) s.counted (omega arith)
 
-    pub changed-shares : {p : ℕ} → Stored ws i (word (get_or ws p 0 / 2) (get_or ws i 0 % 2)) after cs' → SlotChanged (shares p) ws cs i (Search.From 0) after cs'
+    pub changed-shares : {p : ℕ} → Stored ws i (word (get_or ws p 0 / 2) (get_or ws i 0 % 2)) after cs' → SlotChanged (shares p) ws cs i (Ok 0) after cs'
     unfolding become
     changed-shares s = changed-done s.words_are s.counted (omega arith)
 
-    pub changed-reserved : Stored ws i (word (get_or ws i 0 / 2) 1) after cs' → SlotChanged reserved ws cs i (Search.From 0) after cs'
+    pub changed-reserved : Stored ws i (word (get_or ws i 0 / 2) 1) after cs' → SlotChanged reserved ws cs i (Ok 0) after cs'
     unfolding become
     changed-reserved s = changed-done s.words_are s.counted (omega arith)
 
@@ -180,13 +180,3 @@ stop-used n c ws i h pool none =
     let w : ℕ = get_or ws i 0 in
     let e : owned ws w ≡ word (suc (lowest_free ws)) (w % 2) = rw none.wants in
     rw none.asked (omega (arith, (own-slot ws i h).in_pool, ap (λ x. x / 2) e, pool i, none.full))
-
--- ---- which pass
-
-pub pass-first : (first : Bool) (c : Kind) → goes_first c ≡ true → first ≡ in_pass first c
-pass-first true c e = sym e
-pass-first false c e = rw e
-
-pub pass-other : (first : Bool) (c : Kind) → goes_first c ≡ false → not first ≡ in_pass first c
-pass-other true c e = sym e
-pass-other false c e = rw e

@@ -5,7 +5,7 @@ ghost use Rattle.rules.specs.Store.{byte_at};
 ghost use Rattle.rules.specs.Edit.{within, store_slot};
 ghost use Rattle.store.specs.SlotBytes.{SlotCopy};
 
-use crate::bytes::{earlier, later, store_part};
+use crate::bytes::store_part;
 use crate::edit::{Edit, Source};
 use crate::read::read_bytes;
 use tables::Geometry;
@@ -29,8 +29,8 @@ pub fn copy_slot(
         old new mem.old k }
 {
     let p = k * g.block_size;
-    let a = later(e.off, p);
-    let n = earlier(e.end, p + g.block_size) - a;
+    let a = e.off.max(p);
+    let n = e.end.min(p + g.block_size) - a;
     read_bytes(
         g,
         words,

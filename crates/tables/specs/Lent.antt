@@ -2,10 +2,16 @@
 use Rattle.std.specs.Prelude.{ℕ, List}
 use Rattle.std.specs.Borrow.{Bor}
 use Rattle.rules.specs.Store.{Geometry, Store}
+use Rattle.tables.specs.Dimensions.{numbers}
 use Rattle.tables.specs.declared.geometry.Geometry as Code
+use Rattle.tables.specs.declared.geometry.Dimensions as Said
 
 abbrev pub geometry_of : Code.Geometry → Geometry
-geometry_of g = record { F = g.files; S = g.slots; N = g.blocks; B = g.block_size }
+geometry_of g = numbers g.files g.slots g.blocks g.block_size
+
+-- what a caller says of its tables
+abbrev pub dimensions_of : Said.Dimensions → Geometry
+dimensions_of d = numbers d.files d.slots d.blocks d.block_size
 
 -- a lent slice
 abbrev pub Lent : Type 0

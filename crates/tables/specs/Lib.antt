@@ -1,3 +1,5 @@
+pub mod Dimensions
+pub mod Refusal
 pub mod Lent
 pub mod Tables
 pub mod Groups

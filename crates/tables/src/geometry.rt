@@ -1,15 +1,27 @@
-// The geometry and the lengths of the lent tables.
-ghost use Rattle.std.specs.Prelude.{◌≡◌, true};
-ghost use Rattle.rules.specs.Store.{good_geometry, good_block_size, good_lengths};
-ghost use Rattle.tables.specs.Lent.{geometry_of, tables};
+// The geometry of the lent tables.
+ghost use Rattle.std.specs.Prelude.{◌≡◌, true, IfOk, IfErr, is_ok};
+ghost use Rattle.rules.specs.Store.{good_geometry};
+ghost use Rattle.tables.specs.Dimensions.{numbers};
 
-// Files, slots per file, blocks in the pool, bytes of a block.
-#[derive(Clone, Copy)]
+use crate::refusal::Refusal;
+
+// What a caller says of its tables, any numbers: files, slots per file, blocks in the pool, bytes of a block.
+#[derive(Clone, Copy, Debug)]
+pub struct Dimensions {
+    pub files: usize,
+    pub slots: usize,
+    pub blocks: usize,
+    pub block_size: usize,
+}
+
+// Those numbers where they lie inside the limits.
+#[derive(Clone, Copy, Debug)]
 pub struct Geometry {
     pub files: usize,
     pub slots: usize,
     pub blocks: usize,
     pub block_size: usize,
+    pub ghost good: { good_geometry (numbers files slots blocks block_size) ≡ true },
 }
 
 impl Geometry {
@@ -26,58 +38,35 @@ impl Geometry {
     pub const SMALL_POOL: usize = 256;
 
     pub const MIDDLE_POOL: usize = 4096;
+}
 
-    // Whether the numbers lie inside the limits.
-    pub fn good(self) -> bool
-        ensures { result ≡ good_geometry (geometry_of self) }
+impl Dimensions {
+    ghost use Rattle.tables.specs.Lent.{geometry_of, dimensions_of};
+
+    // The geometry of these numbers, if they lie inside the limits.
+    #[tactic(auto, unfolding(rules::specs::Store::good_geometry, rules::specs::Store::good_block_size))]
+    pub fn geometry(self) -> Result<Geometry, Refusal>
+        ensures good { is_ok result ≡ good_geometry (dimensions_of self) }
+        ensures same { IfOk result (λ g. geometry_of g ≡ dimensions_of self) }
+        ensures refusal { IfErr result (λ r. r ≡ Refusal.Geometry) }
     {
-        if self.files < 1 {
-            return false;
+        if !(1..=Geometry::MAX_FILES).contains(&self.files) {
+            return Err(Refusal::Geometry);
         }
-        if Self::MAX_FILES < self.files {
-            return false;
+        if !(1..=Geometry::MAX_SLOTS).contains(&self.slots) {
+            return Err(Refusal::Geometry);
         }
-        if self.slots < 1 {
-            return false;
+        if !(1..=Geometry::MAX_BLOCKS).contains(&self.blocks) {
+            return Err(Refusal::Geometry);
         }
-        if Self::MAX_SLOTS < self.slots {
-            return false;
+        if !matches!(self.block_size, 512 | 1024 | 2048 | Geometry::MAX_BLOCK) {
+            return Err(Refusal::Geometry);
         }
-        if self.blocks < 1 {
-            return false;
-        }
-        if Self::MAX_BLOCKS < self.blocks {
-            return false;
-        }
-        block_size_good(self.block_size)
+        Ok(Geometry {
+            files: self.files,
+            slots: self.slots,
+            blocks: self.blocks,
+            block_size: self.block_size,
+        })
     }
-}
-
-fn block_size_good(b: usize) -> bool
-    ensures { result ≡ good_block_size b }
-{
-    if b == 512 {
-        return true;
-    }
-    if b == 1024 {
-        return true;
-    }
-    if b == 2048 {
-        return true;
-    }
-    b == 4096
-}
-
-// Whether the tables have the lengths of a geometry inside the limits.
-pub fn good_lengths(g: Geometry, sizes: &[u64], words: &[u32], mem: &[u8]) -> bool
-    requires { good_geometry (geometry_of g) ≡ true }
-    ensures { result ≡ good_lengths (geometry_of g) (tables sizes.now words.now mem.now) }
-{
-    if sizes.len() != g.files {
-        return false;
-    }
-    if words.len() != g.files * g.slots {
-        return false;
-    }
-    mem.len() == g.blocks * g.block_size
 }

@@ -5,17 +5,21 @@
 mod files;
 mod geometry;
 mod groups;
+mod lent;
 mod make;
 mod pool;
+mod refusal;
 mod sound;
 mod space;
 mod tally;
 mod view;
 mod words;
 
-pub use geometry::{Geometry, good_lengths};
+pub use geometry::{Dimensions, Geometry};
+pub use lent::good_lengths;
 pub use make::make_empty;
 pub use pool::{fits_pool, lowest_free, takes_block};
+pub use refusal::Refusal;
 pub use sound::{Surveyed, judge_tables, survey};
 pub use space::{Space, file_space};
 pub use view::{Kind, Place, slot_kind, slot_place, slot_view};

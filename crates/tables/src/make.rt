@@ -1,9 +1,10 @@
 // Making an empty store.
 ghost use Rattle.std.specs.Prelude.{◌≡◌, length, replicate};
-ghost use Rattle.tables.specs.Lent.{geometry_of, tables};
+ghost use Rattle.tables.specs.Lent.{dimensions_of, tables};
 ghost use Rattle.rules.specs.Calls.{MakePromise};
 
-use crate::geometry::{Geometry, good_lengths};
+use crate::geometry::Dimensions;
+use crate::lent::good_lengths;
 use crate::sound::Surveyed;
 
 fn zero_sizes(dst: &mut [u64])
@@ -27,14 +28,19 @@ fn zero_slots(dst: &mut [u32])
 }
 
 // Zeroes every table, or answers a refusal and leaves them as they are.
-pub fn make_empty(g: Geometry, sizes: &mut [u64], words: &mut [u32], mem: &mut [u8]) -> u32
-    ensures { MakePromise (geometry_of g)
+pub fn make_empty(
+    dimensions: Dimensions,
+    sizes: &mut [u64],
+    words: &mut [u32],
+    mem: &mut [u8],
+) -> u32
+    ensures { MakePromise (dimensions_of dimensions)
         (tables sizes.old words.old mem.old) result
         (tables sizes.new words.new mem.new) }
 {
-    if !g.good() {
+    let Ok(g) = dimensions.geometry() else {
         return Surveyed::GEOMETRY;
-    }
+    };
     if !good_lengths(g, sizes, words, mem) {
         return Surveyed::LENGTH;
     }

@@ -1,12 +1,13 @@
 // Whether a store is sound, and its used and owed blocks, by one table of holders.
 ghost use Rattle.std.specs.Prelude.{◌≡◌, false, ◌≤◌};
-ghost use Rattle.tables.specs.Lent.{geometry_of, tables};
+ghost use Rattle.tables.specs.Lent.{geometry_of, dimensions_of, tables};
 ghost use Rattle.tables.specs.Tables.{Shaped};
 ghost use Rattle.rules.specs.Calls.{SurveyPromise};
 ghost use Rattle.tables.specs.Survey.{TableReady, TableFits, FileReady, FileTested, TableTested, TableJudged};
 
 use crate::files::{file_sound, slots_of};
-use crate::geometry::{Geometry, good_lengths};
+use crate::geometry::{Dimensions, Geometry};
+use crate::lent::good_lengths;
 use crate::pool::{fits_of, owed_of, used_blocks};
 use crate::tally::scan_and_note;
 
@@ -214,13 +215,13 @@ fn survey_shaped(g: Geometry, sizes: &[u64], words: &[u32], mem: &[u8]) -> Surve
 }
 
 // The refusal number, or 0 with the used and owed blocks.
-pub fn survey(g: Geometry, sizes: &[u64], words: &[u32], mem: &[u8]) -> Surveyed
-    ensures { SurveyPromise (geometry_of g) (tables sizes.now words.now mem.now)
+pub fn survey(dimensions: Dimensions, sizes: &[u64], words: &[u32], mem: &[u8]) -> Surveyed
+    ensures { SurveyPromise (dimensions_of dimensions) (tables sizes.now words.now mem.now)
         result.number result.used result.owed }
 {
-    if !g.good() {
+    let Ok(g) = dimensions.geometry() else {
         return Surveyed::refused(Surveyed::GEOMETRY);
-    }
+    };
     if !good_lengths(g, sizes, words, mem) {
         return Surveyed::refused(Surveyed::LENGTH);
     }

@@ -1,11 +1,11 @@
 // One slot shown without copying: its part of the block memory, or the zero page that the caller lends.
 ghost use Rattle.std.specs.Prelude.{◌≡◌};
-ghost use Rattle.tables.specs.Lent.{geometry_of, tables};
+ghost use Rattle.tables.specs.Lent.{dimensions_of, tables};
 ghost use Rattle.rules.specs.Calls.{slot_refusal, KindPromise};
 ghost use Rattle.tables.specs.View.{PlacePromise, ViewPromise};
 
 use crate::files::zero_bytes;
-use crate::geometry::Geometry;
+use crate::geometry::Dimensions;
 use crate::sound::{Surveyed, survey};
 
 // The refusal, and whether the slot is a hole.
@@ -29,7 +29,7 @@ impl Place {
 }
 
 fn slot_refusal(
-    g: Geometry,
+    dimensions: Dimensions,
     sizes: &[u64],
     words: &[u32],
     mem: &[u8],
@@ -37,16 +37,16 @@ fn slot_refusal(
     f: usize,
     k: usize,
 ) -> u32
-    ensures { result ≡ slot_refusal (geometry_of g) (tables sizes.now words.now mem.now) page.now f k }
+    ensures { result ≡ slot_refusal (dimensions_of dimensions) (tables sizes.now words.now mem.now) page.now f k }
 {
-    let number = survey(g, sizes, words, mem).number;
+    let number = survey(dimensions, sizes, words, mem).number;
     if number == Surveyed::GEOMETRY {
         return Surveyed::GEOMETRY;
     }
     if number == Surveyed::LENGTH {
         return Surveyed::LENGTH;
     }
-    if page.len() != g.block_size {
+    if page.len() != dimensions.block_size {
         return Surveyed::LENGTH;
     }
     if number != 0 {
@@ -55,10 +55,10 @@ fn slot_refusal(
     if !zero_bytes(page) {
         return Surveyed::UNSOUND;
     }
-    if g.files <= f {
+    if dimensions.files <= f {
         return Place::NO_SLOT;
     }
-    if g.slots <= k {
+    if dimensions.slots <= k {
         return Place::NO_SLOT;
     }
     0
@@ -66,7 +66,7 @@ fn slot_refusal(
 
 // The refusal, which of the two slices has the slot's part, and where it starts there.
 pub fn slot_place(
-    g: Geometry,
+    dimensions: Dimensions,
     sizes: &[u64],
     words: &[u32],
     mem: &[u8],
@@ -74,9 +74,9 @@ pub fn slot_place(
     f: usize,
     k: usize,
 ) -> Place
-    ensures { PlacePromise (geometry_of g) (tables sizes.now words.now mem.now) page.now f k result.number result.hole result.start }
+    ensures { PlacePromise (dimensions_of dimensions) (tables sizes.now words.now mem.now) page.now f k result.number result.hole result.start }
 {
-    let number = slot_refusal(g, sizes, words, mem, page, f, k);
+    let number = slot_refusal(dimensions, sizes, words, mem, page, f, k);
     if number != 0 {
         return Place {
             number,
@@ -84,7 +84,7 @@ pub fn slot_place(
             start: 0,
         };
     }
-    let b = (words[f * g.slots + k] / 2) as usize;
+    let b = (words[f * dimensions.slots + k] / 2) as usize;
     if b == 0 {
         return Place {
             number: 0,
@@ -95,12 +95,12 @@ pub fn slot_place(
     Place {
         number: 0,
         hole: false,
-        start: (b - 1) * g.block_size,
+        start: (b - 1) * dimensions.block_size,
     }
 }
 
 pub fn slot_kind(
-    g: Geometry,
+    dimensions: Dimensions,
     sizes: &[u64],
     words: &[u32],
     mem: &[u8],
@@ -108,9 +108,9 @@ pub fn slot_kind(
     f: usize,
     k: usize,
 ) -> Kind
-    ensures { KindPromise (geometry_of g) (tables sizes.now words.now mem.now) page.now f k result.number result.hole }
+    ensures { KindPromise (dimensions_of dimensions) (tables sizes.now words.now mem.now) page.now f k result.number result.hole }
 {
-    let p = slot_place(g, sizes, words, mem, page, f, k);
+    let p = slot_place(dimensions, sizes, words, mem, page, f, k);
     Kind {
         number: p.number,
         hole: p.hole,
@@ -118,7 +118,7 @@ pub fn slot_kind(
 }
 
 pub fn slot_view<'a>(
-    g: Geometry,
+    dimensions: Dimensions,
     sizes: &[u64],
     words: &[u32],
     mem: &'a [u8],
@@ -126,9 +126,9 @@ pub fn slot_view<'a>(
     f: usize,
     k: usize,
 ) -> &'a [u8]
-    ensures { ViewPromise (geometry_of g) (tables sizes.now words.now mem.now) mem.entry page.entry f k result }
+    ensures { ViewPromise (dimensions_of dimensions) (tables sizes.now words.now mem.now) mem.entry page.entry f k result }
 {
-    let p = slot_place(g, sizes, words, mem, page, f, k);
+    let p = slot_place(dimensions, sizes, words, mem, page, f, k);
     if p.number != 0 {
         return &page[0..0];
     }
@@ -136,6 +136,6 @@ pub fn slot_view<'a>(
         return page;
     }
     let start = p.start;
-    let end = start + g.block_size;
+    let end = start + dimensions.block_size;
     &mem[start..end]
 }

@@ -28,6 +28,8 @@ pub length-bool : (b : Bool) → length (bool b) ≡ 4
 unfolding bool
 length-bool b = length-u32 (cond b 1 0)
 
+pub ruleset lengths = (length-u32, length-u64, length-bool)
+
 pub length-opaque : (d : List ℕ) → length (opaque d) ≡ opaque_size (length d)
 unfolding opaque u32
 length-opaque d = simp (length-append, length-replicate, length-be) (omega arith)

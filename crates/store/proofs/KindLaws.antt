@@ -15,6 +15,7 @@ use Rattle.rules.proofs.EditForms.{slots-behind}
 use Rattle.rules.proofs.SoundStore.{slots-fit, ceil-behind, Sound}
 use Rattle.rules.proofs.SoundLaws.{sound-facts}
 use Rattle.rules.proofs.PlanLaws.{own-slot, InPool}
+use Rattle.std.specs.Borrow.{Bor}
 use Rattle.tables.specs.Tables.{TableTrue, Stored}
 use Rattle.tables.specs.Tally.{first_zero}
 use Rattle.store.specs.declared.edit.Source.{Source}
@@ -46,7 +47,7 @@ pub edit-inside : {g : Geometry} {e : CodeEdit.Edit} {ws cs old : List ℕ} → 
 edit-inside k = omega (arith, edit-room k.edit, k.slots)
 
 -- where no error forbids an edit of some bytes, it can be planned
-module _ {g : Geometry} {st : Store} {cs : List ℕ} {e : CodeEdit.Edit} {d : List ℕ} (a : Applies g st cs e d) (some : e.off < e.end) where
+module _ {g : Geometry} {st : Store} {cs : List ℕ} {e : CodeEdit.Edit} (a : Applies g st cs e) (some : e.off < e.end) where
   good_geometry_lem : Good g
   good_geometry_lem = good g a.known.shaped.geometry
 
@@ -54,8 +55,8 @@ module _ {g : Geometry} {st : Store} {cs : List ℕ} {e : CodeEdit.Edit} {d : Li
   sound-store = sound-facts g (block-pos good_geometry_lem) st a.known.shaped.lengths a.known.sound
 
   -- a COPY's source lies inside its file; a CLONE's lies as its target does
-  source_in : (act : Code.Act) → ActKnown g st e.file e.off e.end d act → SourceIn g e.file e.off e.end act
-  source_in Code.Act.Write k = tt
+  source_in : (act : Code.Act) → ActKnown g st e.file e.off e.end act → SourceIn g e.file e.off e.end act
+  source_in (Code.Act.Write d) k = tt
   source_in (Code.Act.Copy s) k = record {
     file = k.source.file;
     other = k.other;
@@ -92,32 +93,32 @@ module _ {g : Geometry} {e : CodeEdit.Edit} {k : ℕ} (s : SlotOf g e k) {from :
 
 module _ {g : Geometry} {e : CodeEdit.Edit} {size : ℕ} {ws : List ℕ} {k w : ℕ} where
   by-act : {c : Kind} (a : Code.Act) → e.act ≡ a → SharesIn (g.F * g.S) c
-      → ((st : Store) (d : List ℕ) → SlotSeen g e size ws k w st → c ≡ kind_of g st (edit_from (record { file = e.file; off = e.off; end = e.end; act = a }) d) k)
+      → ((st : Store) → SlotSeen g e size ws k w st → c ≡ kind_of g st (edit_from (record { file = e.file; off = e.off; end = e.end; act = a })) k)
       → KindIs g e size ws k w c
   by-act a q i h = record {
-    is = λ st d s. h st d s ∙ ap (λ (x : Code.Act). kind_of g st (edit_from (record { file = e.file; off = e.off; end = e.end; act = x }) d) k) (sym q);
+    is = λ st s. h st s ∙ ap (λ (x : Code.Act). kind_of g st (edit_from (record { file = e.file; off = e.off; end = e.end; act = x })) k) (sym q);
     inside = i;
   }
 
-  pub kind-write : e.act ≡ Code.Act.Write → KindIs g e size ws k w owns
+  pub kind-write : {d : Bor (List ℕ)} → e.act ≡ Code.Act.Write d → KindIs g e size ws k w owns
   unfolding kind_of
-  kind-write q = by-act _ q tt (λ st d s. refl)
+  kind-write q = by-act _ q tt (λ st s. refl)
 
   pub kind-copy : {s : Source} {c : Kind} → e.act ≡ Code.Act.Copy s → CopyKindIs g e s size ws k c → KindIs g e size ws k w c
-  kind-copy q h = by-act _ q h.inside (λ st d s. h.is st s.size_is s.others)
+  kind-copy q h = by-act _ q h.inside (λ st s. h.is st s.size_is s.others)
 
   pub kind-clone : SlotOf g e k → {s : Source} → e.act ≡ Code.Act.Clone s
       → KindIs g e size ws k w (shares (s.file * g.S + s.off / g.B + (k - first_slot g e.off)))
   unfolding kind_of
-  kind-clone h q = by-act _ q (clone-room h q) (λ st d s. refl)
+  kind-clone h q = by-act _ q (clone-room h q) (λ st s. refl)
 
   pub kind-allocate : e.act ≡ Code.Act.Allocate → KindIs g e size ws k w reserved
   unfolding kind_of
-  kind-allocate q = by-act _ q tt (λ st d s. refl)
+  kind-allocate q = by-act _ q tt (λ st s. refl)
 
   pub kind-cut : {c : Kind} → e.act ≡ Code.Act.Deallocate → c ≡ cond (covers g size e.off e.end k) given (cond (is_hole w) stays owns) → KindIs g e size ws k w c
   unfolding kind_of
-  kind-cut q h = rw h (by-act _ q (none (covers g size e.off e.end k) (is_hole w)) (λ st d s. rw (s.size_is, s.word_is)))
+  kind-cut q h = rw h (by-act _ q (none (covers g size e.off e.end k) (is_hole w)) (λ st s. rw (s.size_is, s.word_is)))
     where
       none : (a b : Bool) → SharesIn (g.F * g.S) (cond a given (cond b stays owns))
       none true b = tt

@@ -139,9 +139,9 @@ pub record Passing (g : Geometry) (e : CodeEdit.Edit) (size : ℕ) (which : Pass
   pub counted : TableTrue ws cs
   pub low : from ≤ first_zero cs
   pub outside : Outside ws₀ (index_of g e) (slot_count g e.off e.end) ws
-  pub left : (st : Store) (d : List ℕ) → Seen g e size old ws₀ st
-      → each (run (e.file * g.S) (kinds_in (in_pass which) g st (edit_from e d))) ws (first_slot g e.off + j) (slot_count g e.off e.end - j)
-      ≡ pass g st (edit_from e d) (in_pass which) ws₀
+  pub left : (st : Store) → Seen g e size old ws₀ st
+      → each (run (e.file * g.S) (kinds_in (in_pass which) g st (edit_from e))) ws (first_slot g e.off + j) (slot_count g e.off e.end - j)
+      ≡ pass g st (edit_from e) (in_pass which) ws₀
 
 pub pass-start : {g : Geometry} {e : CodeEdit.Edit} {size : ℕ} {ws cs old : List ℕ} {which : Pass} → Plannable g e ws cs old → Passing g e size which old ws cs ws cs 0 0
 pass-start {g} {e} {ws = ws} {which = which} k =
@@ -152,7 +152,7 @@ pass-start {g} {e} {ws = ws} {which = which} k =
       counted = k.counted;
       low = omega arith;
       outside = outside_refl ws _ _;
-      left = λ st d s. rw (add-zero (first_slot g e.off), none) (sym (pass_is (in_pass which) g st (edit_from e d) ws));
+      left = λ st s. rw (add-zero (first_slot g e.off), none) (sym (pass_is (in_pass which) g st (edit_from e) ws));
     }
 
 module _ {g : Geometry} {e : CodeEdit.Edit} {size : ℕ} {which : Pass} {old ws₀ cs₀ ws cs : List ℕ} {j from : ℕ} (l : Passing g e size which old ws₀ cs₀ ws cs j from) where
@@ -162,9 +162,9 @@ module _ {g : Geometry} {e : CodeEdit.Edit} {size : ℕ} {which : Pass} {old ws�
       record {
         counted = l.counted;
         outside = l.outside;
-        words_are = λ t st d s. rw none at (l.left st d s);
+        words_are = λ t st s. rw none at (l.left st s);
         stopped = λ t. absurd (true≢false t);
-        unfit = λ t st d s. absurd (true≢false t);
+        unfit = λ t st s. absurd (true≢false t);
       }
 
   module _ (fit : first_slot g e.off + slot_count g e.off e.end ≤ g.S) (h : j < slot_count g e.off e.end) {kind : Kind}
@@ -176,9 +176,9 @@ module _ {g : Geometry} {e : CodeEdit.Edit} {size : ℕ} {which : Pass} {old ws�
         let q : index_of g e + j ≡ e.file * g.S + (first_slot g e.off + j) = omega arith in
         rw q at t
 
-    kinds_are : (st : Store) (d : List ℕ) → Seen g e size old ws₀ st
-        → kinds_in (in_pass which) g st (edit_from e d) (first_slot g e.off + j) ≡ only (in_pass which) kind
-    kinds_are st d s = ap (only (in_pass which)) (sym (is.is st d (seen-slot s fit l.outside j h)))
+    kinds_are : (st : Store) → Seen g e size old ws₀ st
+        → kinds_in (in_pass which) g st (edit_from e) (first_slot g e.off + j) ≡ only (in_pass which) kind
+    kinds_are st s = ap (only (in_pass which)) (sym (is.is st (seen-slot s fit l.outside j h)))
 
     one_more : slot_count g e.off e.end - j ≡ suc (slot_count g e.off e.end - (j + 1))
     one_more = omega arith
@@ -201,10 +201,10 @@ module _ {g : Geometry} {e : CodeEdit.Edit} {size : ℕ} {which : Pass} {old ws�
             slots = ap length to ∙ become-length c ws i;
             same = λ p w. rw to (become_local c ws i p (apart p w));
           });
-          left = λ st d s. rw more
-              (ap (λ x. each (run (e.file * g.S) (kinds_in (in_pass which) g st (edit_from e d))) x (suc k) (slot_count g e.off e.end - (j + 1)))
-              (to ∙ ap (λ a. become a ws i) (sym (kinds_are st d s)))
-              ∙ (rw one_more at (l.left st d s)));
+          left = λ st s. rw more
+              (ap (λ x. each (run (e.file * g.S) (kinds_in (in_pass which) g st (edit_from e))) x (suc k) (slot_count g e.off e.end - (j + 1)))
+              (to ∙ ap (λ a. become a ws i) (sym (kinds_are st s)))
+              ∙ (rw one_more at (l.left st s)));
         }
       where
         apart : (p : ℕ) → (p < index_of g e) ⊎ (index_of g e + slot_count g e.off e.end ≤ p) → p ≢ e.file * g.S + (first_slot g e.off + j)
@@ -222,11 +222,11 @@ module _ {g : Geometry} {e : CodeEdit.Edit} {size : ℕ} {which : Pass} {old ws�
           outside = rw to l.outside;
           words_are = λ q. absurd (true≢false (sym q));
           stopped = λ q. only-owns (in_pass which) kind none.asked;
-          unfit = λ q st d s. rw (same, ← l.left st d s, one_more)
-              (run-stop (e.file * g.S) (kinds_in (in_pass which) g st (edit_from e d))
-              (owns-keeps which g st (edit_from e d) k (kinds_are st d s ∙ none.asked))
+          unfit = λ q st s. rw (same, ← l.left st s, one_more)
+              (run-stop (e.file * g.S) (kinds_in (in_pass which) g st (edit_from e))
+              (owns-keeps which g st (edit_from e) k (kinds_are st s ∙ none.asked))
               (length cs) ws k (slot_count g e.off e.end - (j + 1)) (omega (arith, l.outside.slots)) l.counted.pool
-              (rw (kinds_are st d s) none));
+              (rw (kinds_are st s) none));
         }
 
 -- ---- the plan: the two passes, kept or undone
@@ -267,7 +267,7 @@ module _ {g : Geometry} {e : CodeEdit.Edit} {n : ℕ} {ws cs old : List ℕ} (k 
       fitted = rw (q, p, saved-back ws (index_of g e) n old saved (rw all (edit-inside k)) changed) fits;
     }
 
-    module _ (sizes mem d : List ℕ) (is : get_or sizes e.file 0 ≡ size) where
+    module _ (sizes mem : List ℕ) (is : get_or sizes e.file 0 ≡ size) where
       before : Store
       before = record { sizes = sizes; words = ws; mem = mem }
 
@@ -279,24 +279,24 @@ module _ {g : Geometry} {e : CodeEdit.Edit} {n : ℕ} {ws cs old : List ℕ} (k 
       seen-mid : Seen g e size old mid before
       seen-mid = record { size_is = seen.size_is; words_are = seen.words_are; others = others-on e (edit-room k.edit).slots a.outside seen.others }
 
-      plan-is : pass g before (edit_from e d) (in_pass Pass.Others) mid ≡ plan g before (edit_from e d)
+      plan-is : pass g before (edit_from e) (in_pass Pass.Others) mid ≡ plan g before (edit_from e)
       unfolding plan before
-      plan-is = ap (pass g before (edit_from e d) (in_pass Pass.Others)) (a.words_are (first_done d₁ a) before d seen)
+      plan-is = ap (pass g before (edit_from e) (in_pass Pass.Others)) (a.words_are (first_done d₁ a) before seen)
 
     module _ {after cs₃ : List ℕ} where
       pub plan-stopped : d₂ ≡ false → length cs₃ ≡ length cs₂ → Undone last (index_of g e) old after cs₃ → EditPlanned g e size ws false after cs₃ old
       unfolding before
       plan-stopped ends same u = record {
-        planned = λ sizes mem d is. planned_undone ws (index_of g e) n old saved (rw all (edit-inside k)) changed
-            (rw (plan-is sizes mem d is) at (b.unfit ends (before sizes mem d is) d (seen-mid sizes mem d is))) same u;
+        planned = λ sizes mem is. planned_undone ws (index_of g e) n old saved (rw all (edit-inside k)) changed
+            (rw (plan-is sizes mem is) at (b.unfit ends (before sizes mem is) (seen-mid sizes mem is))) same u;
         saved = saved-words;
       }
 
       pub plan_settled : d₂ ≡ true → {done : Bool} → Planned (splice last (index_of g e) old) last done after cs₃ → EditPlanned g e size ws done after cs₃ old
       unfolding before
       plan_settled ok p = record {
-        planned = λ sizes mem d is. planned_settled ws (index_of g e) n old saved (rw all (edit-inside k)) changed
-            (b.words_are ok (before sizes mem d is) d (seen-mid sizes mem d is) ∙ plan-is sizes mem d is) p;
+        planned = λ sizes mem is. planned_settled ws (index_of g e) n old saved (rw all (edit-inside k)) changed
+            (b.words_are ok (before sizes mem is) (seen-mid sizes mem is) ∙ plan-is sizes mem is) p;
         saved = saved-words;
       }
 

@@ -22,7 +22,7 @@ pub record CopySource (g : Geometry) (s : Source) (f n : ℕ) : Type 0 where
 
 -- where the source lies, for an act in file f from off up to end; the slots of a CLONE's lie in the table
 abbrev pub SourceIn : Geometry → ℕ → ℕ → ℕ → Code.Act → Type 0
-SourceIn g f off end Code.Act.Write = Unit {0}
+SourceIn g f off end (Code.Act.Write d) = Unit {0}
 SourceIn g f off end (Code.Act.Copy s) = CopySource g s f (end - off)
 SourceIn g f off end (Code.Act.Clone s) = s.file * g.S + s.off / g.B + slot_count g off end ≤ g.F * g.S
 SourceIn g f off end Code.Act.Allocate = Unit {0}
@@ -91,7 +91,7 @@ pub record SlotSeen (g : Geometry) (e : CodeEdit.Edit) (size : ℕ) (ws : List �
 
 -- what becomes of slot k in any such store
 pub record KindIs (g : Geometry) (e : CodeEdit.Edit) (size : ℕ) (ws : List ℕ) (k w : ℕ) (c : Kind) : Type 0 where
-  pub is : (st : Store) (d : List ℕ) → SlotSeen g e size ws k w st → c ≡ kind_of g st (edit_from e d) k
+  pub is : (st : Store) → SlotSeen g e size ws k w st → c ≡ kind_of g st (edit_from e) k
   pub inside : SharesIn (g.F * g.S) c
 
 -- slot i can be changed: its table is true, a slot that it shares lies in the table too, and no block below `from` is free
@@ -143,14 +143,14 @@ pub record Seen (g : Geometry) (e : CodeEdit.Edit) (size : ℕ) (old ws : List �
 pub record Passed (g : Geometry) (e : CodeEdit.Edit) (size : ℕ) (which : CodePass.Pass) (old ws : List ℕ) (done : Bool) (after counts : List ℕ) : Type 0 where
   pub counted : TableTrue after counts
   pub outside : Outside ws (index_of g e) (slot_count g e.off e.end) after
-  pub words_are : done ≡ true → (st : Store) (d : List ℕ) → Seen g e size old ws st → after ≡ pass g st (edit_from e d) (in_pass which) ws
+  pub words_are : done ≡ true → (st : Store) → Seen g e size old ws st → after ≡ pass g st (edit_from e) (in_pass which) ws
   pub stopped : done ≡ false → in_pass which owns ≡ true
-  pub unfit : done ≡ false → (st : Store) (d : List ℕ) → Seen g e size old ws st → fits_pool (length counts) (pass g st (edit_from e d) (in_pass which) ws) ≡ false
+  pub unfit : done ≡ false → (st : Store) → Seen g e size old ws st → fits_pool (length counts) (pass g st (edit_from e) (in_pass which) ws) ≡ false
 
 -- ---- the plan
 
--- for every store with these words where e's file has that size, and data d; with the old words of e's slots
+-- for every store with these words where e's file has that size; with the old words of e's slots
 pub record EditPlanned (g : Geometry) (e : CodeEdit.Edit) (size : ℕ) (ws : List ℕ) (done : Bool) (after counts old : List ℕ) : Type 0 where
-  pub planned : (sizes mem d : List ℕ) → get_or sizes e.file 0 ≡ size
-      → Planned ws (plan g (record { sizes = sizes; words = ws; mem = mem }) (edit_from e d)) done after counts
+  pub planned : (sizes mem : List ℕ) → get_or sizes e.file 0 ≡ size
+      → Planned ws (plan g (record { sizes = sizes; words = ws; mem = mem }) (edit_from e)) done after counts
   pub saved : old ≡ words_of g e ws

@@ -15,17 +15,17 @@ pub fn copy_slot(
     g: Geometry,
     words: &[u32],
     mem: &mut [u8],
-    e: Edit,
+    e: &Edit<'_>,
     from: Source,
     old: u32,
     new: u32,
     k: usize,
     page: &mut [u8],
 )
-    requires { SlotCopy (geometry_of g) words.now mem.old from.file from.off old new k e.off e.end (length page.old) }
+    requires { SlotCopy (geometry_of g) words.now mem.old from.file from.off old new k e.now.off e.now.end (length page.old) }
     ensures { (sizes : List ℕ)
-        → mem.new ≡ store_slot (geometry_of g) (within e.off e.end)
-        (λ p. byte_at (geometry_of g) (record { sizes = sizes; words = words.now; mem = mem.old }) from.file (from.off + (p - e.off)))
+        → mem.new ≡ store_slot (geometry_of g) (within e.now.off e.now.end)
+        (λ p. byte_at (geometry_of g) (record { sizes = sizes; words = words.now; mem = mem.old }) from.file (from.off + (p - e.now.off)))
         old new mem.old k }
 {
     let p = k * g.block_size;

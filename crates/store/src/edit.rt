@@ -1,4 +1,4 @@
-// An edit as a value. WRITE's data stands beside it.
+// An edit as a value, with the bytes that a WRITE brings.
 
 // Where the bytes of a COPY or a CLONE come from: the places of a file from `off` on.
 #[derive(Clone, Copy, Debug, PartialEq, Eq)]
@@ -9,8 +9,8 @@ pub struct Source {
 
 // What an edit does at the places of its region.
 #[derive(Clone, Copy, Debug)]
-pub enum Act {
-    Write,
+pub enum Act<'a> {
+    Write(&'a [u8]),
     Copy(Source),
     Clone(Source),
     Allocate,
@@ -19,11 +19,11 @@ pub enum Act {
 
 // The file, the region, from `off` up to `end`, and what is done there.
 #[derive(Clone, Copy, Debug)]
-pub struct Edit {
+pub struct Edit<'a> {
     pub file: usize,
     pub off: usize,
     pub end: usize,
-    pub act: Act,
+    pub act: Act<'a>,
 }
 
 // What becomes of a slot of the region.

@@ -19,7 +19,7 @@ fn slot_count(g: Geometry, off: usize, end: usize) -> usize
     (end + (g.block_size - 1)) / g.block_size - off / g.block_size
 }
 
-// Applies e to the store, with the data d of a WRITE. Refuses, and changes nothing, exactly if the store would then need more blocks
+// Applies e to the store. Refuses, and changes nothing, exactly if the store would then need more blocks
 // than there are.
 pub fn apply(
     g: Geometry,
@@ -27,12 +27,11 @@ pub fn apply(
     words: &mut [u32],
     mem: &mut [u8],
     counts: &mut [u32],
-    e: Edit,
-    d: &[u8],
+    e: &Edit<'_>,
 ) -> Result<(), NoSpace>
-    requires { Applies (geometry_of g) (tables sizes.old words.old mem.old) counts.old e d.now }
+    requires { Applies (geometry_of g) (tables sizes.old words.old mem.old) counts.old e.now }
     ensures { EditPromise (geometry_of g) (tables sizes.old words.old mem.old)
-        (edited (geometry_of g) (tables sizes.old words.old mem.old) (edit_from e d.now))
+        (edited (geometry_of g) (tables sizes.old words.old mem.old) (edit_from e.now))
         (is_ok result) (tables sizes.new words.new mem.new) counts.new }
 {
     if e.end <= e.off {
@@ -42,7 +41,7 @@ pub fn apply(
     let mut saved = [0u32; Geometry::MAX_SLOTS];
     let old = &mut saved[..slot_count(g, e.off, e.end)];
     plan(g, words, counts, e, size as usize, old)?;
-    put_bytes(g, words, mem, e, size as usize, old, d);
+    put_bytes(g, words, mem, e, size as usize, old);
     sizes[e.file] = size.max(e.end as u64);
     Ok(())
 }

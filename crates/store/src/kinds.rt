@@ -36,9 +36,9 @@ fn cut_kind(g: Geometry, size: usize, off: usize, end: usize, k: usize, w: u32) 
 
 // Whether the places of slot k in the region of e are matched by holes of the source alone. Their matches are at most B places in a row: they
 // lie in the slots of the first and the last of them.
-fn from_holes(g: Geometry, words: &[u32], e: Edit, s: Source, k: usize) -> bool
-    requires { CopySlot (geometry_of g) e s words.now k × (e.off ≤ k * g.block_size) }
-    ensures { MatchedIs (geometry_of g) e s words.now k result }
+fn from_holes(g: Geometry, words: &[u32], e: &Edit<'_>, s: Source, k: usize) -> bool
+    requires { CopySlot (geometry_of g) e.now s words.now k × (e.now.off ≤ k * g.block_size) }
+    ensures { MatchedIs (geometry_of g) e.now s words.now k result }
 {
     let start = k * g.block_size;
     let end = e.end.min(start + g.block_size);
@@ -47,9 +47,9 @@ fn from_holes(g: Geometry, words: &[u32], e: Edit, s: Source, k: usize) -> bool
 }
 
 // What a COPY from s makes of slot k.
-fn copy_kind(g: Geometry, words: &[u32], e: Edit, s: Source, size: usize, k: usize) -> Kind
-    requires { CopySlot (geometry_of g) e s words.now k }
-    ensures { CopyKindIs (geometry_of g) e s size words.now k (kind_from result) }
+fn copy_kind(g: Geometry, words: &[u32], e: &Edit<'_>, s: Source, size: usize, k: usize) -> Kind
+    requires { CopySlot (geometry_of g) e.now s words.now k }
+    ensures { CopyKindIs (geometry_of g) e.now s size words.now k (kind_from result) }
 {
     if covered(g, size.max(e.end), e.off, e.end, k) && from_holes(g, words, e, s, k) {
         return Kind::Cleared;
@@ -58,12 +58,12 @@ fn copy_kind(g: Geometry, words: &[u32], e: Edit, s: Source, size: usize, k: usi
 }
 
 // What becomes of slot k of e's file, whose size is `size`; w is the slot's word before the edit. Of `words` only those of other files count.
-pub fn kind_of(g: Geometry, words: &[u32], e: Edit, size: usize, k: usize, w: u32) -> Kind
-    requires { SlotOf (geometry_of g) e k × (length words.now ≡ (geometry_of g).F * (geometry_of g).S) }
-    ensures { KindIs (geometry_of g) e size words.now k w (kind_from result) }
+pub fn kind_of(g: Geometry, words: &[u32], e: &Edit<'_>, size: usize, k: usize, w: u32) -> Kind
+    requires { SlotOf (geometry_of g) e.now k × (length words.now ≡ (geometry_of g).F * (geometry_of g).S) }
+    ensures { KindIs (geometry_of g) e.now size words.now k w (kind_from result) }
 {
     match e.act {
-        Act::Write => Kind::Owns,
+        Act::Write(_) => Kind::Owns,
         Act::Copy(s) => copy_kind(g, words, e, s, size, k),
         Act::Clone(s) => Kind::Shares(
             s.file * g.slots + s.off / g.block_size + (k - e.off / g.block_size),

@@ -40,13 +40,13 @@ fn pass(
     g: Geometry,
     words: &mut [u32],
     counts: &mut [u32],
-    e: Edit,
+    e: &Edit<'_>,
     size: usize,
     which: Pass,
     old: &[u32],
 ) -> Result<(), NoSpace>
-    requires { Plannable (geometry_of g) e words.old counts.old old.now }
-    ensures { Passed (geometry_of g) e size which old.now words.old (is_ok result) words.new counts.new }
+    requires { Plannable (geometry_of g) e.now words.old counts.old old.now }
+    ensures { Passed (geometry_of g) e.now size which old.now words.old (is_ok result) words.new counts.new }
 {
     let k = e.off / g.block_size;
     let i = e.file * g.slots + k;
@@ -65,12 +65,12 @@ pub fn plan(
     g: Geometry,
     words: &mut [u32],
     counts: &mut [u32],
-    e: Edit,
+    e: &Edit<'_>,
     size: usize,
     old: &mut [u32],
 ) -> Result<(), NoSpace>
-    requires { Plannable (geometry_of g) e words.old counts.old old.old × (fits_pool (length counts.old) words.old ≡ true) }
-    ensures { EditPlanned (geometry_of g) e size words.old (is_ok result) words.new counts.new old.new }
+    requires { Plannable (geometry_of g) e.now words.old counts.old old.old × (fits_pool (length counts.old) words.old ≡ true) }
+    ensures { EditPlanned (geometry_of g) e.now size words.old (is_ok result) words.new counts.new old.new }
 {
     let i = e.file * g.slots + e.off / g.block_size;
     let end = i + old.len();

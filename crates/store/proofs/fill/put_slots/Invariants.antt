@@ -7,4 +7,4 @@ use Rattle.store.proofs.fill.put_slots.Given as goal
 
 abbrev pub invariant-loop-i : goal.invariant-loop-i
 invariant-loop-i l = (length l.page ≡ length l.initial.page)
-    × ((st : Store) → Fills (geometry_of l.g) st l.e l.d l.size l.old l.words l.initial.mem → Putting (geometry_of l.g) st l.e l.d l.size l.old l.words l.initial.mem l.mem l.i)
+    × ((st : Store) → Fills (geometry_of l.g) st l.e l.size l.old l.words l.initial.mem → Putting (geometry_of l.g) st l.e l.size l.old l.words l.initial.mem l.mem l.i)

@@ -3,6 +3,9 @@ use native.Mathlib.Omega.{arith}
 use Rattle.store.proofs.MatchLaws.{copy-most, head-below, last-below, matched-no, matched-last}
 use Rattle.store.proofs.kinds.from_holes.Goals as goal
 
+pub overflow_mul-start : goal.overflow_mul-start
+overflow_mul-start c = omega (arith, copy-most c.requires.0)
+
 pub overflow_add-start : goal.overflow_add-start
 overflow_add-start c = omega (arith, copy-most c.requires.0)
 

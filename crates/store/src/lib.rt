@@ -12,7 +12,7 @@ mod planner;
 mod read;
 mod seek;
 
-pub use edit::{Act, Edit, Source};
+pub use edit::{Act, Edit, NoSpace, Source};
 pub use edits::apply;
 pub use read::read_bytes;
 pub use seek::{hole_at, piece_end, seek_file};

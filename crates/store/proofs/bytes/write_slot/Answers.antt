@@ -4,4 +4,4 @@ use Rattle.store.proofs.bytes.write_slot.Goals as goal
 
 pub returns : goal.returns
 returns c =
-    c.store_part.ensures ∙ write-share _ _ _ _ _ _ _ _ _ c.requires c.later-a.ensures c.earlier-b.ensures
+    c.store_part.ensures ∙ write-share _ _ _ _ _ _ _ _ _ c.requires c.max-a.ensures c.min-b.ensures

@@ -1,6 +1,4 @@
-use Prim.Native.Nat.{◌-◌}
-use mathlib.Core.Path.{◌≡◌}
-use lib.ListN.{length}
+use Rattle.std.proofs.Common.{◌≡◌, length}
 use Rattle.rules.specs.Store.{Store}
 use Rattle.tables.specs.Lent.{geometry_of}
 use Rattle.store.specs.Fill.{Fills}
@@ -9,7 +7,4 @@ use Rattle.store.proofs.fill.put_slots.Given as goal
 
 abbrev pub invariant-loop-i : goal.invariant-loop-i
 invariant-loop-i l = (length l.page ≡ length l.initial.page)
-    × ((st : Store) → Fills (geometry_of l.g) st l.e l.d l.size l.old l.words l.initial.mem → Putting (geometry_of l.g) st l.e l.d l.size l.old l.words l.initial.mem l.mem l.i)
-
-abbrev pub decreases-loop-i : goal.decreases-loop-i
-decreases-loop-i l = length l.old - l.i
+    × ((st : Store) → Fills (geometry_of l.g) st l.e l.size l.old l.words l.initial.mem → Putting (geometry_of l.g) st l.e l.size l.old l.words l.initial.mem l.mem l.i)

@@ -1,1 +1,4 @@
 pub mod CheckLaws
+pub mod SameLaws
+pub mod PieceLaws
+pub mod WholeLaws

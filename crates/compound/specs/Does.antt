@@ -30,13 +30,13 @@ state_in c = state_of c.handles (store_in c)
 abbrev pub does_of : Context → Code.Does → Does
 does_of c (Code.Does.Sets h) = sets (file_in h.current) (file_in h.saved)
 does_of c (Code.Does.Shows f v) = shows (view_bytes (geometry_of c.geometry) (store_in c) f v)
-does_of c (Code.Does.Edits e d) = edits (edit_from e (part_of c.request.now d)) (edit_bytes e)
+does_of c (Code.Does.Edits e) = edits (edit_from e) (edit_bytes e)
 
 -- what no error says of its file, and of its act
 abbrev pub AllowedIn : Context → Code.Does → Type 0
 AllowedIn c (Code.Does.Sets h) = Unit {0}
 AllowedIn c (Code.Does.Shows f v) = f < c.geometry.files
-AllowedIn c (Code.Does.Edits e d) = ActKnown (geometry_of c.geometry) (store_in c) e.file e.off e.end (part_of c.request.now d) e.act
+AllowedIn c (Code.Does.Edits e) = ActKnown (geometry_of c.geometry) (store_in c) e.file e.off e.end e.act
 
 -- of COPY and CLONE: the first error of what comes first, or else k
 abbrev pub first_pair : Context → CloneArgs → ℕ → ℕ

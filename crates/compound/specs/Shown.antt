@@ -19,7 +19,7 @@ view_bytes g st f (View.Seek a) = seek_reply g st f a.offset a.count
 
 -- the body of the result of an act on n bytes, from the verifier
 abbrev pub act_bytes : Act → ℕ → List ℕ → List ℕ
-act_bytes Act.Write n v = write_reply n v
+act_bytes (Act.Write d) n v = write_reply n v
 act_bytes (Act.Copy s) n v = copy_reply n v
 act_bytes (Act.Clone s) n v = []
 act_bytes Act.Allocate n v = []

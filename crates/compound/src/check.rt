@@ -31,20 +31,19 @@ fn overlapping(a: u64, b: u64, n: u64) -> bool
 
 // What an operation is checked against: the store, the request in which it stands, and the handles.
 #[derive(Clone, Copy)]
-pub struct Context<'a> {
+pub struct Context<'s, 'r> {
     pub geometry: Geometry,
-    pub sizes: &'a [u64],
-    pub words: &'a [u32],
-    pub memory: &'a [u8],
-    pub request: &'a [u8],
+    pub sizes: &'s [u64],
+    pub words: &'s [u32],
+    pub memory: &'s [u8],
+    pub request: &'r [u8],
     pub handles: Handles,
-    pub ghost good: { good_geometry (geometry_of geometry) ≡ true },
     pub ghost files: { length sizes.now ≡ geometry.files },
     pub ghost current: { (f : ℕ) → handles.current ≡ Some f → f < geometry.files },
     pub ghost saved: { (f : ℕ) → handles.saved ≡ Some f → f < geometry.files },
 }
 
-impl Context<'_> {
+impl<'r> Context<'_, 'r> {
     ghost use Rattle.std.specs.Prelude.{[], ◌∷◌, ◌*◌, ◌≤◌, IfOk, IfErr};
     ghost use Rattle.rules.specs.Lists.{first};
     ghost use Rattle.rules.specs.Run.{too_far, too_big, past_source, source_count, uneven};
@@ -85,7 +84,7 @@ impl Context<'_> {
     }
 
     #[tactic(auto, unfolding(rules::specs::Run::errors, rules::specs::Run::does))]
-    fn put_fh(&self, handle: Span) -> Result<Does, Status>
+    fn put_fh(&self, handle: Span) -> Result<Does<'r>, Status>
         ensures { Checked self.now (meaning self.now.request.now (Operation.PutFh handle)) result }
     {
         ensure(
@@ -101,7 +100,7 @@ impl Context<'_> {
     }
 
     #[tactic(auto, unfolding(rules::specs::Run::errors, rules::specs::Run::does))]
-    fn read(&self, args: ReadArgs) -> Result<Does, Status>
+    fn read(&self, args: ReadArgs) -> Result<Does<'r>, Status>
         ensures { Checked self.now (meaning self.now.request.now (Operation.Read args)) result }
     {
         let file = self.current()?;
@@ -110,7 +109,7 @@ impl Context<'_> {
     }
 
     #[tactic(auto, unfolding(rules::specs::Run::errors, rules::specs::Run::does))]
-    fn read_plus(&self, args: ReadArgs) -> Result<Does, Status>
+    fn read_plus(&self, args: ReadArgs) -> Result<Does<'r>, Status>
         ensures { Checked self.now (meaning self.now.request.now (Operation.ReadPlus args)) result }
     {
         let file = self.current()?;
@@ -119,7 +118,7 @@ impl Context<'_> {
     }
 
     #[tactic(auto, unfolding(rules::specs::Run::errors, rules::specs::Run::does))]
-    fn seek(&self, args: ReadArgs) -> Result<Does, Status>
+    fn seek(&self, args: ReadArgs) -> Result<Does<'r>, Status>
         ensures { Checked self.now (meaning self.now.request.now (Operation.Seek args)) result }
     {
         let file = self.current()?;
@@ -130,24 +129,24 @@ impl Context<'_> {
     }
 
     #[tactic(auto, unfolding(rules::specs::Run::errors, rules::specs::Run::does))]
-    fn write(&self, args: WriteArgs) -> Result<Does, Status>
+    fn write(&self, args: WriteArgs) -> Result<Does<'r>, Status>
         ensures { Checked self.now (meaning self.now.request.now (Operation.Write args)) result }
     {
         let file = self.current()?;
         ensure(zero_stateid(self.request, args.stateid), Status::BadStateid)?;
-        let n = xdr::part(self.request, args.data).len();
-        let end = self.region(args.offset, n as u64)?;
+        let data = xdr::part(self.request, args.data);
+        let end = self.region(args.offset, data.len() as u64)?;
         let edit = Edit {
             file,
             off: args.offset as usize,
             end: end as usize,
-            act: Act::Write,
+            act: Act::Write(data),
         };
-        Ok(Does::Edits(edit, args.data))
+        Ok(Does::Edits(edit))
     }
 
     #[tactic(auto, unfolding(rules::specs::Run::errors, rules::specs::Run::does))]
-    fn allocate(&self, args: RegionArgs) -> Result<Does, Status>
+    fn allocate(&self, args: RegionArgs) -> Result<Does<'r>, Status>
         ensures { Checked self.now (meaning self.now.request.now (Operation.Allocate args)) result }
     {
         let file = self.current()?;
@@ -161,12 +160,12 @@ impl Context<'_> {
             end: end as usize,
             act: Act::Allocate,
         };
-        Ok(Does::Edits(edit, Span { start: 0, len: 0 }))
+        Ok(Does::Edits(edit))
     }
 
     // The region is cut at the size.
     #[tactic(auto, unfolding(rules::specs::Run::errors, rules::specs::Run::does))]
-    fn deallocate(&self, args: RegionArgs) -> Result<Does, Status>
+    fn deallocate(&self, args: RegionArgs) -> Result<Does<'r>, Status>
         ensures { Checked self.now (meaning self.now.request.now (Operation.Deallocate args)) result }
     {
         let file = self.current()?;
@@ -179,7 +178,7 @@ impl Context<'_> {
             end: end.min(self.sizes[file]) as usize,
             act: Act::Deallocate,
         };
-        Ok(Does::Edits(edit, Span { start: 0, len: 0 }))
+        Ok(Does::Edits(edit))
     }
 
     // The saved and the current file, where the stateids pass for a source and for an edit.
@@ -209,7 +208,7 @@ impl Context<'_> {
     }
 
     #[tactic(auto, unfolding(rules::specs::Run::errors, rules::specs::Run::does))]
-    fn copy(&self, args: CopyArgs) -> Result<Does, Status>
+    fn copy(&self, args: CopyArgs) -> Result<Does<'r>, Status>
         ensures { Checked self.now (meaning self.now.request.now (Operation.Copy args)) result }
     {
         let pair = args.clone;
@@ -226,11 +225,11 @@ impl Context<'_> {
                 off: pair.from as usize,
             }),
         };
-        Ok(Does::Edits(edit, Span { start: 0, len: 0 }))
+        Ok(Does::Edits(edit))
     }
 
     #[tactic(auto, unfolding(rules::specs::Run::errors, rules::specs::Run::does))]
-    fn clone(&self, args: CloneArgs) -> Result<Does, Status>
+    fn clone(&self, args: CloneArgs) -> Result<Does<'r>, Status>
         ensures { Checked self.now (meaning self.now.request.now (Operation.Clone args)) result }
     {
         let (source, file) = self.pair(args)?;
@@ -250,7 +249,7 @@ impl Context<'_> {
                 off: args.from as usize,
             }),
         };
-        Ok(Does::Edits(edit, Span { start: 0, len: 0 }))
+        Ok(Does::Edits(edit))
     }
 
     // Whether both offsets are multiples of the block size, and n is one or ends at the source's size.
@@ -265,7 +264,7 @@ impl Context<'_> {
 
     // The first error of an operation that was read, NOSPC aside; or what it does.
     #[tactic(auto, unfolding(rules::specs::Run::errors, rules::specs::Run::does))]
-    pub fn check(&self, operation: Operation) -> Result<Does, Status>
+    pub fn check(&self, operation: Operation) -> Result<Does<'r>, Status>
         ensures { Checked self.now (meaning self.now.request.now operation) result }
     {
         match operation {

@@ -2,13 +2,11 @@
 use crate::handles::Handles;
 use crate::reads::View;
 use store::Edit;
-use xdr::Span;
 
-// WRITE's data stand in the request; another edit's span is empty.
 #[derive(Clone, Copy)]
-pub enum Does {
+pub enum Does<'a> {
     Sets(Handles),
     // Of a file.
     Shows(usize, View),
-    Edits(Edit, Span),
+    Edits(Edit<'a>),
 }

@@ -1,14 +1,11 @@
 // STAND-IN for store::Store.
 ghost use Rattle.std.specs.Prelude.{◌≡◌, true, ◌<◌, ◌≤◌, ◌+◌, ◌*◌, length};
-ghost use Rattle.rules.specs.Store.{sound};
+ghost use Rattle.rules.proofs.SoundStore.{Sound};
 ghost use Rattle.tables.specs.Lent.{geometry_of, tables};
-ghost use Rattle.tables.specs.Tables.{Shaped, TableTrue};
+ghost use Rattle.tables.specs.Tables.{TableTrue};
 
-use store::Edit;
+use store::{Edit, NoSpace};
 use tables::Geometry;
-
-#[derive(Clone, Copy, Debug, PartialEq, Eq)]
-pub struct NoSpace;
 
 #[derive(Drop)]
 pub struct Store<'a, 'h> {
@@ -17,11 +14,9 @@ pub struct Store<'a, 'h> {
     pub words: &'a mut [u32],
     pub memory: &'a mut [u8],
     pub holders: &'h mut [u32],
-    pub ghost shaped: { Shaped (geometry_of geometry) (tables sizes.now words.now memory.now) },
-    pub ghost files: { length sizes.now ≡ geometry.files },
     pub ghost blocks: { length holders.now ≡ geometry.blocks },
     pub ghost counted: { TableTrue words.now holders.now },
-    pub ghost sound: { sound (geometry_of geometry) (tables sizes.now words.now memory.now) ≡ true },
+    pub ghost sound: { Sound (geometry_of geometry) (tables sizes.now words.now memory.now) },
 }
 
 impl Store<'_, '_> {
@@ -54,23 +49,19 @@ impl Store<'_, '_> {
         &*self.memory
     }
 
-    pub fn apply(&mut self, e: Edit, d: &[u8]) -> Result<(), NoSpace>
-        requires lawful { Lawful (geometry_of self.old.geometry) (whole self.old) (edit_from e d.now) }
-        requires act { ActKnown (geometry_of self.old.geometry) (whole self.old) e.file e.off e.end d.now e.act }
+    pub fn apply(&mut self, e: &Edit<'_>) -> Result<(), NoSpace>
+        requires lawful { Lawful (geometry_of self.old.geometry) (whole self.old) (edit_from e.now) }
+        requires act { ActKnown (geometry_of self.old.geometry) (whole self.old) e.now.file e.now.off e.now.end e.now.act }
         ensures keeps { KeepsWhole self.old self.new }
-        ensures answer { is_ok result ≡ fits_pool self.old.geometry.blocks (edited (geometry_of self.old.geometry) (whole self.old) (edit_from e d.now)).words }
-        ensures store { whole self.new ≡ cond (is_ok result) (edited (geometry_of self.old.geometry) (whole self.old) (edit_from e d.now)) (whole self.old) }
+        ensures answer { is_ok result ≡ fits_pool self.old.geometry.blocks (edited (geometry_of self.old.geometry) (whole self.old) (edit_from e.now)).words }
+        ensures store { whole self.new ≡ cond (is_ok result) (edited (geometry_of self.old.geometry) (whole self.old) (edit_from e.now)) (whole self.old) }
     {
         let geometry = self.geometry;
         let sizes = &mut *self.sizes;
         let words = &mut *self.words;
         let memory = &mut *self.memory;
         let holders = &mut *self.holders;
-        if store::apply(geometry, sizes, words, memory, holders, e, d) {
-            Ok(())
-        } else {
-            Err(NoSpace)
-        }
+        store::apply(geometry, sizes, words, memory, holders, e)
     }
 
     pub fn read(&self, file: usize, at: usize, out: &mut [u8])

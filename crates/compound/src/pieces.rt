@@ -38,7 +38,7 @@ fn put_bytes(store: &Store<'_, '_>, file: usize, from: usize, n: usize, w: &mut 
 }
 
 // The file's n bytes from `from` on as opaque data: read into the place where they are answered.
-#[tactic(auto, using(xdr::proofs::EncodeLaws::lengths), unfolding(xdr::specs::Encode::opaque))]
+#[tactic(auto, using(xdr::proofs::EncodeLaws::lengths, crate::proofs::PieceLaws::length_bytes), unfolding(xdr::specs::Encode::opaque))]
 pub fn put_file_bytes(
     store: &Store<'_, '_>,
     file: usize,

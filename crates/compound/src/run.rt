@@ -83,13 +83,13 @@ fn perform(
             show(store, file, view, w);
             Ok(handles)
         }
-        Ok(Does::Edits(edit, data)) => {
-            if store.apply(edit, xdr::part(request, data)).is_err() {
+        Ok(Does::Edits(edit)) => {
+            if store.apply(&edit).is_err() {
                 put_result(w, number, Status::NoSpace);
                 return Err(Status::NoSpace);
             }
             put_result(w, number, Status::Ok);
-            put_edit(edit, verifier, w);
+            put_edit(&edit, verifier, w);
             Ok(handles)
         }
     }

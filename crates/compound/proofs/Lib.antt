@@ -2,3 +2,4 @@ pub mod CheckLaws
 pub mod SameLaws
 pub mod PieceLaws
 pub mod WholeLaws
+pub mod ReadLaws

@@ -17,6 +17,9 @@ use Rattle.store.specs.declared.edit.Edit as Code
 use Rattle.store.specs.Edits.{edit_from, ActKnown, Applies}
 use Rattle.store.specs.EditPromises.{EditKnown, EditPromise, judged}
 use Rattle.tables.specs.Tables.{TableTrue}
+use Rattle.tables.specs.Lent.{geometry_of}
+use Rattle.compound.specs.declared.lent.Store as Lent
+use Rattle.compound.specs.Whole.{whole}
 
 pub applies : {g : Geometry} {st : Store} {counts : List ℕ} → good_geometry g ≡ true → Good g → Sound g st → TableTrue st.words counts → length counts ≡ g.N
     → {e : Code.Edit} → Lawful g st (edit_from e) → ActKnown g st e.file e.off e.end e.act → Applies g st counts e
@@ -42,3 +45,10 @@ still_sound {g} {st} n s {e} l {done} {after} p = go (fits_pool g.N (edited g st
     go : (t : Bool) → fits_pool g.N (edited g st e).words ≡ t → Sound g after
     go true q = rw (is true q) (edit_change g (block-pos n) st s l (leb-true _ _ q)).sound
     go false q = rw (is false q) s
+
+-- what a lent store is known to be
+pub facts : (t : Lent.Store) → Sound (geometry_of t.geometry) (whole t)
+facts t = t.sound
+
+pub limits : (t : Lent.Store) → Good (geometry_of t.geometry)
+limits t = t.geometry.limits

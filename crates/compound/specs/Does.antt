@@ -7,7 +7,8 @@ use Rattle.rules.specs.Store.{Geometry, Store}
 use Rattle.rules.specs.Attributes.{file_attrs}
 use Rattle.rules.specs.Operation.{Op, attrs_reply, read_reply, read_plus_reply, seek_reply, write_reply, copy_reply, NOFILEHANDLE, BAD_STATEID}
 use Rattle.rules.specs.Run.{State, no_file, read_stateid, zero_stateid, Does, sets, shows, edits, does, errors}
-use Rattle.tables.specs.Lent.{geometry_of, tables}
+use Rattle.tables.specs.Lent.{geometry_of}
+use Rattle.compound.specs.Whole.{whole}
 use Rattle.store.specs.declared.edit.Act.{Act}
 use Rattle.store.specs.declared.edit.Edit.{Edit}
 use Rattle.store.specs.Edits.{edit_from, ActKnown}
@@ -22,21 +23,21 @@ use Rattle.compound.specs.Runner.{file_in, state_of, first_of}
 use Rattle.compound.specs.Shown.{view_bytes, edit_bytes}
 
 abbrev pub store_in : Context → Store
-store_in c = tables c.sizes.now c.words.now c.memory.now
+store_in c = whole c.store.now
 
 abbrev pub state_in : Context → State
 state_in c = state_of c.handles (store_in c)
 
 abbrev pub does_of : Context → Code.Does → Does
 does_of c (Code.Does.Sets h) = sets (file_in h.current) (file_in h.saved)
-does_of c (Code.Does.Shows f v) = shows (view_bytes (geometry_of c.geometry) (store_in c) f v)
+does_of c (Code.Does.Shows f v) = shows (view_bytes (geometry_of c.store.now.geometry) (store_in c) f v)
 does_of c (Code.Does.Edits e) = edits (edit_from e) (edit_bytes e)
 
 -- what no error says of its file, and of its act
 abbrev pub AllowedIn : Context → Code.Does → Type 0
 AllowedIn c (Code.Does.Sets h) = Unit {0}
-AllowedIn c (Code.Does.Shows f v) = f < c.geometry.files
-AllowedIn c (Code.Does.Edits e) = ActKnown (geometry_of c.geometry) (store_in c) e.file e.off e.end e.act
+AllowedIn c (Code.Does.Shows f v) = f < c.store.now.geometry.files
+AllowedIn c (Code.Does.Edits e) = ActKnown (geometry_of c.store.now.geometry) (store_in c) e.file e.off e.end e.act
 
 -- of COPY and CLONE: the first error of what comes first, or else k
 abbrev pub first_pair : Context → CloneArgs → ℕ → ℕ
@@ -53,7 +54,7 @@ pub record Paired (c : Context) (a : CloneArgs) (source file : ℕ) : Type 0 whe
 
 -- r is the first error of operation o, NOSPC aside, or what it does
 pub record Checked (c : Context) (o : Op) (r : Result Code.Does Status) : Type 0 where
-  pub error : first_of r ≡ first (errors (geometry_of c.geometry) (state_in c) o)
+  pub error : first_of r ≡ first (errors (geometry_of c.store.now.geometry) (state_in c) o)
   pub failed : IfErr r (λ e. 0 < number_of e)
-  pub does : IfOk r (λ d. does_of c d ≡ does (geometry_of c.geometry) (state_in c) o)
+  pub does : IfOk r (λ d. does_of c d ≡ does (geometry_of c.store.now.geometry) (state_in c) o)
   pub allowed : IfOk r (λ d. AllowedIn c d)

@@ -6,6 +6,7 @@ ghost use Rattle.tables.specs.Lent.{geometry_of};
 
 use crate::does::Does;
 use crate::handles::{Handles, handle_file};
+use crate::lent::Store;
 use crate::reads::View;
 use crate::stateid::{read_stateid, zero_stateid};
 use store::{Act, Edit, Source};
@@ -32,15 +33,11 @@ fn overlapping(a: u64, b: u64, n: u64) -> bool
 // What an operation is checked against: the store, the request in which it stands, and the handles.
 #[derive(Clone, Copy)]
 pub struct Context<'s, 'r> {
-    pub geometry: Geometry,
-    pub sizes: &'s [u64],
-    pub words: &'s [u32],
-    pub memory: &'s [u8],
+    pub store: &'s Store<'s, 's>,
     pub request: &'r [u8],
     pub handles: Handles,
-    pub ghost files: { length sizes.now ≡ geometry.files },
-    pub ghost current: { (f : ℕ) → handles.current ≡ Some f → f < geometry.files },
-    pub ghost saved: { (f : ℕ) → handles.saved ≡ Some f → f < geometry.files },
+    pub ghost current: { (f : ℕ) → handles.current ≡ Some f → f < store.now.geometry.files },
+    pub ghost saved: { (f : ℕ) → handles.saved ≡ Some f → f < store.now.geometry.files },
 }
 
 impl<'r> Context<'_, 'r> {
@@ -67,14 +64,14 @@ impl<'r> Context<'_, 'r> {
 
     // The bytes of a file's slots.
     fn room(&self) -> u64
-        ensures { result ≡ self.now.geometry.slots * self.now.geometry.block_size }
+        ensures { result ≡ self.now.store.now.geometry.slots * self.now.store.now.geometry.block_size }
     {
-        (self.geometry.slots * self.geometry.block_size) as u64
+        (self.store.geometry.slots * self.store.geometry.block_size) as u64
     }
 
     // Where a region of n bytes ends.
     fn region(&self, start: u64, n: u64) -> Result<u64, Status>
-        ensures error { first_of result ≡ first (too_far start n ∷ too_big (geometry_of self.now.geometry) start n ∷ []) }
+        ensures error { first_of result ≡ first (too_far start n ∷ too_big (geometry_of self.now.store.now.geometry) start n ∷ []) }
         ensures failed { IfErr result (λ e. 0 < number_of e) }
         ensures end { IfOk result (λ end. end ≡ start + n) }
     {
@@ -92,7 +89,7 @@ impl<'r> Context<'_, 'r> {
             Status::BadHandle,
         )?;
         let file = handle_file(self.request, handle);
-        ensure(file < self.geometry.files, Status::Stale)?;
+        ensure(file < self.store.geometry.files, Status::Stale)?;
         Ok(Does::Sets(Handles {
             current: Some(file),
             saved: self.handles.saved,
@@ -124,7 +121,7 @@ impl<'r> Context<'_, 'r> {
         let file = self.current()?;
         ensure(read_stateid(self.request, args.stateid), Status::BadStateid)?;
         ensure(args.count <= 1, Status::UnionNotSupported)?;
-        ensure(args.offset <= self.sizes[file], Status::NxIo)?;
+        ensure(args.offset <= self.store.sizes[file], Status::NxIo)?;
         Ok(Does::Shows(file, View::Seek(args)))
     }
 
@@ -175,7 +172,7 @@ impl<'r> Context<'_, 'r> {
         let edit = Edit {
             file,
             off: args.offset as usize,
-            end: end.min(self.sizes[file]) as usize,
+            end: end.min(self.store.sizes[file]) as usize,
             act: Act::Deallocate,
         };
         Ok(Does::Edits(edit))
@@ -196,12 +193,12 @@ impl<'r> Context<'_, 'r> {
 
     // How many bytes of a source are meant: a count of 0 means to its end.
     fn meant(&self, source: usize, from: u64, count: u64) -> Result<u64, Status>
-        requires { source < self.now.geometry.files }
+        requires { source < self.now.store.now.geometry.files }
         ensures err { IfErr result (λ e. (e ≡ Status.Inval) × (past_source (store_in self.now) source from count ≡ true)) }
         ensures ok { IfOk result (λ n. (n ≡ source_count (store_in self.now) source from count) × (past_source (store_in self.now) source from count ≡ false)) }
         ensures inside { IfOk result (λ n. from + n ≤ size_of (store_in self.now) source) }
     {
-        let size = self.sizes[source];
+        let size = self.store.sizes[source];
         let end = from.checked_add(count).ok_or(Status::Inval)?;
         ensure(end <= size, Status::Inval)?;
         Ok(if count == 0 { size - from } else { count })
@@ -254,12 +251,12 @@ impl<'r> Context<'_, 'r> {
 
     // Whether both offsets are multiples of the block size, and n is one or ends at the source's size.
     fn even(&self, source: usize, from: u64, to: u64, n: u64) -> bool
-        requires source { source < self.now.geometry.files }
+        requires source { source < self.now.store.now.geometry.files }
         requires sum { from + n ≤ size_of (store_in self.now) source }
-        ensures { result ≡ not (uneven (geometry_of self.now.geometry) (store_in self.now) source from to n) }
+        ensures { result ≡ not (uneven (geometry_of self.now.store.now.geometry) (store_in self.now) source from to n) }
     {
-        let block = self.geometry.block_size as u64;
-        from % block == 0 && to % block == 0 && (n % block == 0 || self.sizes[source] - from == n)
+        let block = self.store.geometry.block_size as u64;
+        from % block == 0 && to % block == 0 && (n % block == 0 || self.store.sizes[source] - from == n)
     }
 
     // The first error of an operation that was read, NOSPC aside; or what it does.

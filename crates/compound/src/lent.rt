@@ -21,9 +21,8 @@ pub struct Store<'a, 'h> {
 
 impl Store<'_, '_> {
     ghost use Rattle.std.specs.Prelude.{cond, is_ok};
-    ghost use Rattle.rules.specs.Lists.{count};
     ghost use Rattle.rules.specs.Store.{fits_pool, bytes_from, is_hole};
-    ghost use Rattle.rules.specs.Attributes.{takes_room, slots_of, freed_blocks};
+    ghost use Rattle.tables.specs.Space.{SpaceIs};
     ghost use Rattle.rules.specs.Read.{seek_place};
     ghost use Rattle.rules.specs.Edit.{edited};
     ghost use Rattle.rules.proofs.EditLaws.{Lawful};
@@ -100,8 +99,7 @@ impl Store<'_, '_> {
         requires file { file < self.old.geometry.files }
         ensures keeps { KeepsWhole self.old self.new }
         ensures same { whole self.new ≡ whole self.old }
-        ensures used { result.used ≡ count takes_room (slots_of (geometry_of self.old.geometry) self.old.words.now file) }
-        ensures freed { result.freed ≡ freed_blocks (geometry_of self.old.geometry) self.old.words.now file }
+        ensures space { SpaceIs (geometry_of self.old.geometry) self.old.words.now file result.used result.freed self.old.holders.now self.new.holders.now }
     {
         let geometry = self.geometry;
         let words = &mut *self.words;

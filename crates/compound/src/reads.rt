@@ -30,6 +30,7 @@ fn reaches(size: u64, off: u64, n: u64) -> bool
 }
 
 // READ's body: eof, data.
+#[tactic(auto, using(xdr::proofs::EncodeLaws::lengths), unfolding(rules::specs::Operation::read_reply))]
 fn put_read(store: &Store<'_, '_>, file: usize, args: ReadArgs, w: &mut Writer<'_>)
     requires file { file < store.now.geometry.files }
     requires room { HasRoom 2171 w.old }
@@ -47,6 +48,7 @@ fn put_read(store: &Store<'_, '_>, file: usize, args: ReadArgs, w: &mut Writer<'
 }
 
 // READ_PLUS's body: eof, the number of pieces, the pieces. They are counted as they are written.
+#[tactic(auto, using(xdr::proofs::EncodeLaws::lengths))]
 fn put_read_plus(store: &Store<'_, '_>, file: usize, args: ReadArgs, w: &mut Writer<'_>)
     requires file { file < store.now.geometry.files }
     requires room { HasRoom 2171 w.old }
@@ -82,9 +84,10 @@ fn put_file_attrs(store: &mut Store<'_, '_>, file: usize, asked: Asked, w: &mut 
     ensures keeps { KeepsWhole store.old store.new }
 {
     let block_size = store.geometry.block_size;
+    let size = store.sizes[file];
     let space = store.space(file);
     let attrs = FileAttrs {
-        size: store.sizes[file],
+        size,
         space_used: (block_size * space.used) as u64,
         clone_blksize: block_size as u32,
         space_freed: (block_size * space.freed) as u64,

@@ -62,10 +62,7 @@ fn perform(
 {
     let number = operation.number();
     let context = Context {
-        geometry: store.geometry,
-        sizes: store.sizes(),
-        words: store.words(),
-        memory: store.memory(),
+        store,
         request,
         handles,
     };

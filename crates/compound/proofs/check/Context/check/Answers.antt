@@ -16,6 +16,6 @@ returns-in_ok-current-in-GetAttr c =
     record {
       error = search rules;
       failed = search rules;
-      does = rw c.in-GetAttr.is (ap shows (attrs_same (geometry_of c.args.self.now.geometry) (store_in c.args.self.now) c.in_ok-current-in-GetAttr.field-0 _ c.asked_in-asked.result c.asked_in-asked.ensures) ∙ ap (λ f. shows (getattr_reply (geometry_of c.args.self.now.geometry) (store_in c.args.self.now) f (numbers (part_of c.args.self.now.request.now c.in-GetAttr.words)))) file);
+      does = rw c.in-GetAttr.is (ap shows (attrs_same (geometry_of c.args.self.now.store.now.geometry) (store_in c.args.self.now) c.in_ok-current-in-GetAttr.field-0 _ c.asked_in-asked.result c.asked_in-asked.ensures) ∙ ap (λ f. shows (getattr_reply (geometry_of c.args.self.now.store.now.geometry) (store_in c.args.self.now) f (numbers (part_of c.args.self.now.request.now c.in-GetAttr.words)))) file);
       allowed = search rules;
     }

@@ -13,7 +13,7 @@ use lib.Seq.{length-take-le, get_or-take, get_or-drop}
 use lib.Dec.{leb, ltb, eqb}
 use Rattle.rules.specs.Lists.{all_to, ceil_div}
 use Rattle.rules.specs.Store.{Geometry, Store, size_of, word_of, slot_byte, byte_at, sound_file}
-use Rattle.tables.specs.Tables.{FileKnown}
+use Rattle.tables.specs.Tables.{Shaped, FileKnown}
 use Rattle.rules.proofs.GeometryLaws.{Good, good, block-pos, file-most, lengths}
 use Rattle.xdr.proofs.BoolLaws.{and_left, and_right, and_false, or_inl}
 use Rattle.rules.proofs.SoundStore.{ceil_le, le_ceil}
@@ -123,9 +123,8 @@ pub record FileRoom (g : Geometry) (st : Store) (f : ℕ) : Type 0 where
   pub slots : f * g.S + g.S ≤ length st.words
   pub block : (k : ℕ) → k < ceil_div (size_of st f) g.B → word_of g st.words f k / 2 * g.B ≤ length st.mem
 
-pub file-room : {g : Geometry} {st : Store} {f : ℕ} → FileKnown g st f → FileRoom g st f
-file-room {g} {st} {f} h =
-    let t = h.shaped in
+pub file_room : {g : Geometry} {st : Store} {f : ℕ} → Shaped g st → FileKnown g st f → FileRoom g st f
+file_room {g} {st} {f} t h =
     let o = good g t.geometry in
     let l = lengths g st t.lengths in
     record {

@@ -1,7 +1,7 @@
 -- Laws on a file's slots: those past its size hold no block and are not reserved, and what is counted of the others is counted of all.
 use Prim.Native.Nat.{ℕ, suc, ◌+◌, ◌-◌, ◌*◌, ◌/◌, ◌≤◌, ◌<◌}
 use mathlib.Core.Path.{◌≡◌, refl, sym, ap, ◌∙◌}
-use mathlib.Core.Bool.{Bool, true, false, ◌||◌, true≢false}
+use mathlib.Core.Bool.{Bool, true, false, ◌||◌}
 use mathlib.Core.List.{List}
 use native.Mathlib.Nat.{mul-le-mul_right}
 use native.Mathlib.Decide.{dec_lt}
@@ -13,9 +13,9 @@ use lib.Dec.{leb, ltb, eqb}
 use Rattle.rules.specs.Lists.{count, all_to, ceil_div}
 use Rattle.rules.specs.Store.{Geometry, Store, size_of, word_of, is_reserved, holds, sound_file}
 use Rattle.rules.specs.Attributes.{slots_of}
-use Rattle.tables.specs.Tables.{FileKnown}
-use Rattle.tables.specs.Tally.{Scannable, ScannedNoted}
-use Rattle.tables.specs.Survey.{file_passes, FileReady, FileTested}
+use Rattle.tables.specs.Tables.{Shaped, FileKnown}
+use Rattle.tables.specs.Tally.{Scannable, SlotsCounted}
+use Rattle.tables.specs.Survey.{file_passes, FileReady}
 use Rattle.rules.proofs.CountLaws.{count-parts, count-none-at}
 use Rattle.rules.proofs.GeometryLaws.{Good, good, block-pos, file-most, lengths}
 use Rattle.rules.proofs.SoundLaws.{all_to_at}
@@ -38,29 +38,29 @@ count_head p c s l h z e = omega (arith, count-parts p c (take s l), ap (count p
 
 -- ---- one file
 
-module _ (g : Geometry) (st : Store) (counts : List ℕ) (f : ℕ) (ready : FileReady g st counts f) where
+module _ (g : Geometry) (st : Store) (counts : List ℕ) (f : ℕ) (shaped : Shaped g st) (ready : FileReady g st counts f) where
   abbrev end : ℕ
   end = ceil_div (size_of st f) g.B
 
   is_good : Good g
-  is_good = good g ready.shaped.geometry
+  is_good = good g shaped.geometry
 
   pub block-some : 0 < g.B
   block-some = block-pos is_good
 
   pub slots-inside : f * g.S + g.S ≤ length st.words
-  slots-inside = omega (arith, (lengths g st ready.shaped.lengths).slots, mul-le-mul_right g.S ready.file)
+  slots-inside = omega (arith, (lengths g st shaped.lengths).slots, mul-le-mul_right g.S ready.file)
 
   pub size-there : f < length st.sizes
-  size-there = omega (arith, (lengths g st ready.shaped.lengths).files, ready.file)
+  size-there = omega (arith, (lengths g st shaped.lengths).files, ready.file)
 
   pub room_small : g.S * g.B ≤ 4194304
   room_small = file-most g is_good
 
   -- a size that does not fit
-  pub size-fails : g.S * g.B < size_of st f → false ≡ file_passes g st f
+  pub size_fails : g.S * g.B < size_of st f → false ≡ file_passes g st f
   unfolding sound_file
-  size-fails h = rw (lt-leb (size_of st f) (g.S * g.B) h, and_false)
+  size_fails h = rw (lt-leb (size_of st f) (g.S * g.B) h, and_false)
 
   module _ (fits : size_of st f ≤ g.S * g.B) where
     pub size_small : size_of st f ≤ 4194304
@@ -107,57 +107,54 @@ module _ (g : Geometry) (st : Store) (counts : List ℕ) (f : ℕ) (ready : File
     }
 
     -- the scan's test of them
-    module _ {formed : Bool} {held : ℕ} {reserved : Bool} {after : List ℕ} (scan : ScannedNoted head_slots counts formed held reserved after) where
-      formed_is : formed ≡ all_to end (λ k. leb (word_of g st.words f k / 2) g.N)
-      formed_is =
-          scan.scanned.formed_is
-          ∙ ap (λ (n : ℕ). all_to n (λ i. leb (get_or head_slots i 0 / 2) (length counts))) head-long
-          ∙ all_to_ext end _ _ (λ k l. rw (head_at k l, ready.long))
+    abbrev pub head_formed : Bool
+    head_formed = all_to (length head_slots) (λ i. leb (get_or head_slots i 0 / 2) (length counts))
 
-      pub words_fail : formed ≡ false → false ≡ file_passes g st f
-      words_fail e = rw (sym formed_is ∙ e)
+    formed_is : head_formed ≡ all_to end (λ k. leb (word_of g st.words f k / 2) g.N)
+    formed_is =
+        ap (λ (n : ℕ). all_to n (λ i. leb (get_or head_slots i 0 / 2) (length counts))) head-long
+        ∙ all_to_ext end _ _ (λ k l. rw (head_at k l, ready.long))
 
-      module _ (ok : formed ≡ true) where
-        pub file-known : FileKnown g st f
-        file-known = record {
-          shaped = ready.shaped;
-          file = ready.file;
-          pool = λ k l.
-              leb-true (word_of g st.words f k / 2) g.N
-              (all_to_at end (λ k. leb (word_of g st.words f k / 2) g.N) (sym formed_is ∙ ok) k l);
+    pub words_fail : false ≡ head_formed → false ≡ file_passes g st f
+    words_fail e = rw (sym formed_is ∙ sym e)
+
+    module _ (ok : true ≡ head_formed) where
+      pub file_known : FileKnown g st f
+      file_known = record {
+        file = ready.file;
+        pool = λ k l.
+            leb-true (word_of g st.words f k / 2) g.N
+            (all_to_at end (λ k. leb (word_of g st.words f k / 2) g.N) (sym formed_is ∙ sym ok) k l);
+      }
+
+      pub sound_fails : false ≡ sound_file g st f → false ≡ file_passes g st f
+      sound_fails e = rw (sym e, and_false)
+
+      module _ (fine : true ≡ sound_file g st f) where
+        pub file_passes_lem : true ≡ file_passes g st f
+        file_passes_lem = rw (sym formed_is ∙ sym ok, sym fine)
+
+        past-zero : (k : ℕ) → end ≤ k → k < g.S → get_or (drop (f * g.S) st.words) k 0 ≡ 0
+        past-zero k h l =
+            get_or-drop (f * g.S) st.words k 0
+            ∙ eqb-true (word_of g st.words f k) 0
+            (rw (le-ltb k end h) at
+            (all_to_at g.S (λ j. ltb j end || eqb (word_of g st.words f j) 0) (file-past g st f (sym fine)) k l))
+
+        head_counts : (p : ℕ → Bool) → p 0 ≡ false → count p (slots_of g st.words f) ≡ count p head_slots
+        unfolding head-is
+        head_counts p z = rw head-is (count_head p end g.S (drop (f * g.S) st.words) end-inside z past-zero)
+
+        -- what is counted of them is counted of all
+        pub file_counted : {held : ℕ} {reserved : Bool} {after : List ℕ}
+            → SlotsCounted head_slots counts held reserved after → SlotsCounted (slots_of g st.words f) counts held reserved after
+        file_counted scan = record {
+          noted = record {
+            long = scan.noted.long;
+            each = λ b h. scan.noted.each b h ∙ ap (λ (n : ℕ). get_or counts b 0 + n) (sym (head_counts (holds b) (ne_eqb 0 (suc b) (λ (q : 0 ≡ suc b). omega arith))));
+          };
+          slots = record {
+            held_is = scan.slots.held_is ∙ sym (head_counts (ltb 1) refl);
+            reserved_is = scan.slots.reserved_is ∙ ap (ltb 0) (sym (head_counts is_reserved refl));
+          };
         }
-
-        module _ {t : Bool} (is : t ≡ sound_file g st f) where
-          pub sound-fails : t ≡ false → false ≡ file_passes g st f
-          sound-fails e = rw (sym is ∙ e, and_false)
-
-          module _ (fine : t ≡ true) where
-            past-zero : (k : ℕ) → end ≤ k → k < g.S → get_or (drop (f * g.S) st.words) k 0 ≡ 0
-            past-zero k h l =
-                get_or-drop (f * g.S) st.words k 0
-                ∙ eqb-true (word_of g st.words f k) 0
-                (rw (le-ltb k end h) at
-                (all_to_at g.S (λ j. ltb j end || eqb (word_of g st.words f j) 0) (file-past g st f (sym is ∙ fine)) k l))
-
-            head_counts : (p : ℕ → Bool) → p 0 ≡ false → count p (slots_of g st.words f) ≡ count p head_slots
-            unfolding head-is
-            head_counts p z = rw head-is (count_head p end g.S (drop (f * g.S) st.words) end-inside z past-zero)
-
-            pub file_passes_lem : FileTested g st counts f true held reserved after
-            file_passes_lem = record {
-              pass_is = rw (sym formed_is ∙ ok, sym is ∙ fine);
-              counted = λ e. record {
-                noted = record {
-                  long = (scan.noted ok).long;
-                  each = λ b h. (scan.noted ok).each b h ∙ ap (λ (n : ℕ). get_or counts b 0 + n) (sym (head_counts (holds b) (ne_eqb 0 (suc b) (λ (q : 0 ≡ suc b). omega arith))));
-                };
-                slots = record {
-                  held_is = (scan.scanned.slots ok).held_is ∙ sym (head_counts (ltb 1) refl);
-                  reserved_is = (scan.scanned.slots ok).reserved_is ∙ ap (ltb 0) (sym (head_counts is_reserved refl));
-                };
-              };
-            }
-
-  -- a file that does not pass
-  pub file-fails : {after : List ℕ} → false ≡ file_passes g st f → FileTested g st counts f false 0 false after
-  file-fails e = record { pass_is = e; counted = λ q. absurd (true≢false (sym q)) }

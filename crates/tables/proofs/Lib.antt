@@ -1,4 +1,3 @@
-pub mod CallLaws
 pub mod SlotLaws
 pub mod GroupLaws
 pub mod TallyLaws

@@ -1,7 +1,7 @@
 -- The survey: what its tests and counts say of a store.
 use Prim.Native.Nat.{ℕ, zero, suc, ◌+◌, ◌*◌, ◌/◌, ◌%◌, ◌≤◌, ◌<◌}
 use mathlib.Core.Path.{◌≡◌, refl, sym, ap, subst, ◌∙◌}
-use mathlib.Core.Bool.{Bool, true, false, not, ◌&&◌, ◌||◌, true≢false}
+use mathlib.Core.Bool.{Bool, true, false, ◌&&◌, ◌||◌, true≢false}
 use mathlib.Core.List.{List, ◌∷◌}
 use native.Mathlib.Nat.{le_of_suc-le-suc, div-add-mod', mod-lt, mul-le-mul_right}
 use native.Mathlib.Decide.{dec_lt}
@@ -9,24 +9,25 @@ use native.Mathlib.Numerals.{add-one}
 use native.Mathlib.Omega.{arith}
 use lib.ListN.{length, get_or, take, drop, replicate, length-replicate, get_or-replicate}
 use lib.Dec.{leb, ltb}
-use borrow.Author.Tests.{le-leb, lt-leb, le-ltb, eqb-true, not-true, not-false}
+use borrow.Author.Tests.{le-leb, lt-leb, le-ltb, eqb-true}
 use Rattle.rules.specs.Lists.{all_to, count, ceil_div}
 use Rattle.rules.specs.Store.{Geometry, Store, size_of, word_of, is_reserved, holds, holders, used, owed, fits_pool, sound_file, sound}
 use Rattle.rules.specs.Attributes.{slots_of}
-use Rattle.rules.specs.Calls.{SurveyPromise}
+use Rattle.rules.specs.Calls.{store_refusal, used_count, owed_count, SurveyPromise}
 use Rattle.tables.specs.Tables.{Shaped, TableTrue}
-use Rattle.tables.specs.Tally.{some_reserved, owes_by, OwedKnown, RoomKnown}
-use Rattle.tables.specs.Survey.{TableReady, TableFits, tables_pass, file_passes, FileReady, FileTested, TableTested, TableJudged}
+use Rattle.tables.specs.Tally.{some_reserved, owes_by, SlotsCounted, RoomKnown}
+use Rattle.tables.specs.Survey.{tables_pass, file_passes, FileReady, TableJudged}
+use Rattle.tables.specs.Lent.{geometry_of}
+use Rattle.tables.specs.Viewed.{view_store}
+use Rattle.tables.specs.declared.lent.View.{View}
 use Rattle.rules.proofs.CountLaws.{count_most, count-end}
 use Rattle.rules.proofs.GeometryLaws.{good, block-pos, slots-all, lengths}
 use Rattle.rules.proofs.SoundLaws.{all_to_at, all_to_all}
 use Rattle.rules.proofs.SoundStore.{ceil_le}
-use Rattle.rules.proofs.PlanLaws.{InPool}
 use Rattle.xdr.proofs.BoolLaws.{and_left, and_right, and_both}
 use Rattle.tables.proofs.GroupLaws.{same_tests}
 use Rattle.tables.proofs.TallyLaws.{count-from, formed_pool, some-part, some-none}
 use Rattle.tables.proofs.PoolLaws.{all_to_fails, tallied_used, tallied_owed}
-use Rattle.tables.proofs.CallLaws.{survey_unsound, survey_sound}
 use Rattle.tables.proofs.FileTests.{file-fits, file-past}
 
 -- ---- the tests, file by file
@@ -99,18 +100,18 @@ pub record Testing (g : Geometry) (st : Store) (counts : List ℕ) (f held : ℕ
   pub held_rest : held + count (ltb 1) (drop (f * g.S) st.words) ≡ count (ltb 1) st.words
   pub reserved_rest : (reserved || some_reserved (drop (f * g.S) st.words)) ≡ some_reserved st.words
 
-pub ready-long : (g : Geometry) (st : Store) (counts : List ℕ) → TableReady g st counts → length counts ≡ g.N
-ready-long g st counts r = ap length r.zero ∙ length-replicate g.N 0
+pub ready_long : (n : ℕ) (counts : List ℕ) → counts ≡ replicate n 0 → length counts ≡ n
+ready_long n counts zeros = ap length zeros ∙ length-replicate n 0
 
-pub testing_none : (g : Geometry) (st : Store) (counts : List ℕ) → TableReady g st counts → Testing g st counts 0 0 false
-testing_none g st counts r =
+pub testing_none : (g : Geometry) (st : Store) (counts : List ℕ) → counts ≡ replicate g.N 0 → Testing g st counts 0 0 false
+testing_none g st counts zeros =
     let e : 0 * g.S ≡ 0 = omega arith in
-    let long : length counts ≡ g.N = ready-long g st counts r in
+    let long : length counts ≡ g.N = ready_long g.N counts zeros in
     record {
       within = omega arith;
       long = long;
       passed = refl;
-      each = λ b h. rw e (omega (arith, ap (λ (l : List ℕ). get_or l b 0) r.zero ∙ get_or-replicate g.N b 0 0 (omega (arith, long))));
+      each = λ b h. rw e (omega (arith, ap (λ (l : List ℕ). get_or l b 0) zeros ∙ get_or-replicate g.N b 0 0 (omega (arith, long))));
       held_rest = rw e (omega arith);
       reserved_rest = rw e;
     }
@@ -126,63 +127,74 @@ module _ {g : Geometry} {st : Store} {counts : List ℕ} {f held : ℕ} {reserve
   pub held_small : held ≤ 65536
   held_small = omega (arith, t.held_rest, count_most (ltb 1) st.words, most-words)
 
-  pub file-ready : f < g.F → FileReady g st counts f
-  file-ready l = record {
-    shaped = h;
+  pub file_ready : f < g.F → FileReady g st counts f
+  file_ready l = record {
     file = l;
     long = t.long;
     few = λ b k. omega (arith, split (holds b), t.each b k, count_most (holds b) st.words, most-words);
   }
 
-  module _ (l : f < g.F) {pass : Bool} {more : ℕ} {too : Bool} {after : List ℕ} (r : FileTested g st counts f pass more too after) where
-    pub testing_fails : pass ≡ false → {last : List ℕ} → TableTested g st false 0 false last
-    testing_fails e = record {
-      pass_is = sym (pass-files g st h ∙ all_to_fails g.F f (file_passes g st) l (sym r.pass_is ∙ e));
-      room = λ q. absurd (true≢false (sym q));
+  pub testing_fails : f < g.F → false ≡ file_passes g st f → false ≡ tables_pass g st
+  testing_fails l e = sym (pass-files g st h ∙ all_to_fails g.F f (file_passes g st) l (sym e))
+
+  -- file f has passed and is counted
+  module _ {more : ℕ} {too : Bool} {after : List ℕ} (r : SlotsCounted (slots_of g st.words f) counts more too after) where
+    pub more_small : more ≤ 65536
+    more_small = omega (arith, r.slots.held_is, split (ltb 1), t.held_rest, count_most (ltb 1) st.words, most-words)
+
+    pub testing_more : f < g.F → true ≡ file_passes g st f → Testing g st after (f + 1) (held + more) (reserved || too)
+    testing_more l ok =
+        let n = r.noted in
+        record {
+          within = omega (arith, l);
+          long = n.long ∙ t.long;
+          passed = rw (add-one f) (and_both (file_passes g st f) (all_to f (file_passes g st)) (sym ok) t.passed);
+          each = λ b k.
+              let m : b < length counts = omega (arith, n.long) in
+              omega (arith, n.each b m, split (holds b), t.each b m);
+          held_rest = omega (arith, r.slots.held_is, split (ltb 1), t.held_rest);
+          reserved_rest =
+              rw r.slots.reserved_is
+              (some-part reserved (count is_reserved (slots_of g st.words f)) (count is_reserved (drop ((f + 1) * g.S) st.words)) ∙ ap (λ (n : ℕ). reserved || ltb 0 n) (split is_reserved) ∙ t.reserved_rest);
+        }
+
+  -- all have
+  module _ (l : g.F ≤ f) where
+    last : f ≡ g.F
+    last = omega (arith, t.within)
+
+    pub testing_all : true ≡ tables_pass g st
+    unfolding last
+    testing_all = sym (pass-files g st h ∙ rw last at t.passed)
+
+    none : (p : ℕ → Bool) → count p (drop (f * g.S) st.words) ≡ 0
+    unfolding last
+    none p = count-end p st.words (f * g.S) (rw last (omega (arith, (lengths g st h.lengths).slots)))
+
+    pub testing_room : RoomKnown held reserved st.words counts
+    testing_room = record {
+      counted = record {
+        table = record { each = λ b k. omega (arith, t.each b k, none (holds b)) };
+        pool = rw t.long (formed_pool (g.F * g.S) g.N st.words (lengths g st h.lengths).slots (passed_words g st (sym testing_all)));
+        few = most-words;
+        some = rw t.long (good g h.geometry).blocks;
+        most = rw t.long (good g h.geometry).blocks_most;
+      };
+      slots = record { held_is = omega (arith, t.held_rest, none (ltb 1)); reserved_is = some-none reserved ∙ ap (λ (n : ℕ). reserved || ltb 0 n) (sym (none is_reserved)) ∙ t.reserved_rest };
     }
 
-    module _ (ok : pass ≡ true) where
-      pub more-small : more ≤ 65536
-      more-small = omega (arith, (r.counted ok).slots.held_is, split (ltb 1), t.held_rest, count_most (ltb 1) st.words, most-words)
+-- ---- what is told
 
-      pub testing_more : Testing g st after (f + 1) (held + more) (reserved || too)
-      testing_more =
-          let n = (r.counted ok).noted in
-          record {
-            within = omega (arith, l);
-            long = n.long ∙ t.long;
-            passed = rw (add-one f) (and_both (file_passes g st f) (all_to f (file_passes g st)) (sym r.pass_is ∙ ok) t.passed);
-            each = λ b k.
-                let m : b < length counts = omega (arith, n.long) in
-                omega (arith, n.each b m, split (holds b), t.each b m);
-            held_rest = omega (arith, (r.counted ok).slots.held_is, split (ltb 1), t.held_rest);
-            reserved_rest =
-                rw (r.counted ok).slots.reserved_is
-                (some-part reserved (count is_reserved (slots_of g st.words f)) (count is_reserved (drop ((f + 1) * g.S) st.words)) ∙ ap (λ (n : ℕ). reserved || ltb 0 n) (split is_reserved) ∙ t.reserved_rest);
-          }
+module _ (g : Geometry) (st : Store) (h : Shaped g st) where
+  survey_unsound : sound g st ≡ false → SurveyPromise g st 3 0 0
+  unfolding store_refusal used_count owed_count
+  survey_unsound k =
+      record { number_is = rw (h.geometry, h.lengths, k); used_is = rw (h.geometry, h.lengths, k); owed_is = rw (h.geometry, h.lengths, k) }
 
-  pub testing_all : g.F ≤ f → TableTested g st true held reserved counts
-  testing_all l =
-      let e : f ≡ g.F = omega (arith, t.within) in
-      let none : (p : ℕ → Bool) → count p (drop (f * g.S) st.words) ≡ 0
-      = λ p. count-end p st.words (f * g.S) (rw e (omega (arith, (lengths g st h.lengths).slots))) in
-      let passes : tables_pass g st ≡ true = pass-files g st h ∙ rw e at t.passed in
-      record {
-        pass_is = sym passes;
-        room = λ q. record {
-          counted = record {
-            table = record { each = λ b k. omega (arith, t.each b k, none (holds b)) };
-            pool = rw t.long (pass-pool passes);
-            few = most-words;
-            some = rw t.long (good g h.geometry).blocks;
-            most = rw t.long (good g h.geometry).blocks_most;
-          };
-          slots = record { held_is = omega (arith, t.held_rest, none (ltb 1)); reserved_is = some-none reserved ∙ ap (λ (n : ℕ). reserved || ltb 0 n) (sym (none is_reserved)) ∙ t.reserved_rest };
-        };
-      }
-    where
-      pass-pool : tables_pass g st ≡ true → InPool g.N st.words
-      pass-pool q = formed_pool (g.F * g.S) g.N st.words (lengths g st h.lengths).slots (passed_words g st q)
+  survey_sound : sound g st ≡ true → SurveyPromise g st 0 (used st.words) (owed st.words)
+  unfolding store_refusal used_count owed_count
+  survey_sound k =
+      record { number_is = rw (h.geometry, h.lengths, k); used_is = rw (h.geometry, h.lengths, k); owed_is = rw (h.geometry, h.lengths, k) }
 
 -- ---- the room
 
@@ -191,38 +203,31 @@ sound-parts : (g : Geometry) (st : Store) → sound g st ≡ (tables_pass g st &
 unfolding sound tables_pass
 sound-parts g st = refl
 
-module _ (g : Geometry) (st : Store) {after : List ℕ} {pass : Bool} {held : ℕ} {reserved : Bool} (h : Shaped g st) (long : length after ≡ g.N) (t : TableTested g st pass held reserved after) where
-  module _ (fails : not pass ≡ true) where
+module _ (g : Geometry) (st : Store) where
+  module _ (fails : false ≡ tables_pass g st) where
     not_sound : sound g st ≡ false
-    not_sound = sound-parts g st ∙ rw (sym t.pass_is ∙ not-true pass fails)
+    not_sound = sound-parts g st ∙ rw (sym fails)
 
-    pub judge_fails : TableJudged g st false after
+    pub judge_fails : {after : List ℕ} → TableJudged g st false after
     judge_fails = record { judged = sym not_sound; table = λ q. absurd (true≢false (sym q)) }
 
-    pub survey_fails : SurveyPromise g st 3 0 0
-    survey_fails = survey_unsound g st h not_sound
+    pub survey_fails : Shaped g st → SurveyPromise g st 3 0 0
+    survey_fails h = survey_unsound g st h not_sound
 
-  module _ (passes : not pass ≡ false) where
+  module _ {after : List ℕ} {held : ℕ} {reserved : Bool} (passes : true ≡ tables_pass g st) (long : length after ≡ g.N) (room : RoomKnown held reserved st.words after) where
     sound-is : sound g st ≡ fits_pool g.N st.words
-    sound-is = sound-parts g st ∙ rw (sym t.pass_is ∙ not-false pass passes)
-
-    pub room-known : RoomKnown held reserved st.words after
-    room-known = t.room (not-false pass passes)
+    sound-is = sound-parts g st ∙ rw (sym passes)
 
     true-table : TableTrue st.words after
-    true-table = room-known.counted
-
-    -- what `owed_of` asks
-    pub owed-known : {u : ℕ} → u ≡ count (ltb 0) after → OwedKnown held u reserved st.words after
-    owed-known e = record { room = room-known; used_is = e }
+    true-table = room.counted
 
     pub judge_room : {fits : Bool} → fits ≡ fits_pool (length after) st.words → TableJudged g st fits after
     judge_room e = record { judged = e ∙ ap (λ (n : ℕ). fits_pool n st.words) long ∙ sym sound-is; table = λ q. true-table }
 
     -- used and owed blocks, counted
-    module _ (u o : ℕ) (used_told : u ≡ count (ltb 0) after) (owed_told : o ≡ count (owes_by after) st.words) where
-      pub sum-small : u + o ≤ 131072
-      sum-small = omega (arith, used_told, owed_told, count_most (ltb 0) after, count_most (owes_by after) st.words, true-table.most, true-table.few)
+    module _ {u o : ℕ} (used_told : u ≡ count (ltb 0) after) (owed_told : o ≡ count (owes_by after) st.words) where
+      pub sum_small : u + o ≤ 131072
+      sum_small = omega (arith, used_told, owed_told, count_most (ltb 0) after, count_most (owes_by after) st.words, true-table.most, true-table.few)
 
       used-same : u ≡ used st.words
       used-same = used_told ∙ tallied_used st.words after true-table.table true-table.pool
@@ -230,33 +235,23 @@ module _ (g : Geometry) (st : Store) {after : List ℕ} {pass : Bool} {held : �
       owed_same : o ≡ owed st.words
       owed_same = owed_told ∙ tallied_owed st.words after true-table.table true-table.pool
 
-      pub survey_room : g.N < u + o → SurveyPromise g st 3 0 0
-      survey_room l = survey_unsound g st h (sound-is ∙ lt-leb (used st.words + owed st.words) g.N (omega (arith, used-same, owed_same)))
+      pub survey_room : Shaped g st → g.N < u + o → SurveyPromise g st 3 0 0
+      survey_room h l = survey_unsound g st h (sound-is ∙ lt-leb (used st.words + owed st.words) g.N (omega (arith, used-same, owed_same)))
 
-      pub surveyed : u + o ≤ g.N → SurveyPromise g st 0 u o
-      surveyed l =
+      pub surveyed : Shaped g st → u + o ≤ g.N → SurveyPromise g st 0 u o
+      surveyed h l =
           rw (used-same, owed_same)
           (survey_sound g st h (sound-is ∙ le-leb (used st.words + owed st.words) g.N (omega (arith, used-same, owed_same))))
 
 -- ---- the table's length
 
 -- the first n of a longer row of zeros
-take-replicate : (n m : ℕ) → n ≤ m → ◌≡◌ {A = List ℕ} (take n (replicate m 0)) (replicate n 0)
-take-replicate zero m h = refl
-take-replicate (suc n) zero h = absurd (omega arith)
-take-replicate (suc n) (suc m) h = ap (λ (l : List ℕ). 0 ∷ l) (take-replicate n m (le_of_suc-le-suc h))
+pub take_zeros : (n m : ℕ) → n ≤ m → ◌≡◌ {A = List ℕ} (take n (replicate m 0)) (replicate n 0)
+take_zeros zero m h = refl
+take_zeros (suc n) zero h = absurd (omega arith)
+take_zeros (suc n) (suc m) h = ap (λ (l : List ℕ). 0 ∷ l) (take_zeros n m (le_of_suc-le-suc h))
 
--- the part of a longer table
-pub table-part : (g : Geometry) (st : Store) (counts : List ℕ) → TableFits g st counts → TableReady g st (take g.N counts)
-table-part g st counts h = record { shaped = h.shaped; zero = ap (take g.N) h.zero ∙ take-replicate g.N (length counts) h.long }
+-- ---- a view's tables
 
--- zeros for at least as many blocks as the pool has
-pub table-zeros : (g : Geometry) (st : Store) (n : ℕ) → Shaped g st → g.N ≤ n → TableFits g st (replicate n 0)
-table-zeros g st n h long = record {
-  shaped = h;
-  long = rw (length-replicate {A = ℕ} n 0) long;
-  zero = ap (λ (k : ℕ). replicate k 0) (sym (length-replicate {A = ℕ} n 0));
-}
-
-pub most-blocks : {g : Geometry} {st : Store} → Shaped g st → g.N ≤ 65536
-most-blocks {g} h = (good g h.geometry).blocks_most
+pub view_shaped : (v : View) → Shaped (geometry_of v.geometry) (view_store v)
+view_shaped v = record { geometry = v.geometry.good; lengths = v.lengths }

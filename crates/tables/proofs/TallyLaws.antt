@@ -14,7 +14,7 @@ use lib.Seq.{get_or-set_same, get_or-set_other, set-get_or, get_or-take, get_or-
 use lib.Dec.{leb, ltb, eqb, eqb-suc-zero}
 use Rattle.rules.specs.Lists.{bit, count, all_to}
 use Rattle.rules.specs.Store.{is_hole, holds, holders}
-use Rattle.tables.specs.Tally.{noted, holds_one, Scanned, Scannable, Known, HoldAll, NotesFit, NotesFitAs, NotesFitFrom, NotedAll, NotedFrom}
+use Rattle.tables.specs.Tally.{noted, holds_one, Scannable, Known, HoldAll, NotesFit, NotesFitAs, NotesFitFrom, NotedAll, NotedFrom}
 use Rattle.tables.specs.declared.tally.Slots.{Slots}
 use Rattle.tables.specs.Groups.{group_at}
 use Rattle.rules.proofs.CountLaws.{count-drop, count-parts, count-end, count_most, count-all-at}
@@ -142,9 +142,9 @@ formed_pool n m ws l e p = go (dec_lt p n)
     go (no d) = rw (get_or-eq_default ws 0 {n = p} (omega (arith, d, l))) (omega arith)
 
 -- what `note_counted` asks of words that passed
-pub scan-fits : {ws cs : List ℕ} {held : ℕ} {formed reserved : Bool} → Scannable ws cs → Scanned ws (length cs) formed held reserved → formed ≡ true → NotesFit ws cs
-scan-fits {ws} {cs} ready scan ok = record {
-  pool = formed_pool (length ws) (length cs) ws refl (sym scan.formed_is ∙ ok);
+pub scan_fits : {ws cs : List ℕ} → Scannable ws cs → true ≡ all_to (length ws) (λ i. leb (get_or ws i 0 / 2) (length cs)) → NotesFit ws cs
+scan_fits {ws} {cs} ready ok = record {
+  pool = formed_pool (length ws) (length cs) ws refl (sym ok);
   few = ready.few;
   short = ready.short;
 }

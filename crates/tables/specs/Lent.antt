@@ -14,8 +14,8 @@ abbrev pub dimensions_of : Said.Dimensions → Geometry
 dimensions_of d = numbers d.files d.slots d.blocks d.block_size
 
 -- a lent slice
-abbrev pub Lent : Type 0
-Lent = Bor (List ℕ)
+abbrev pub Slice : Type 0
+Slice = Bor (List ℕ)
 
 -- the lent tables, sizes, words and memory: what they hold at one moment
 abbrev pub tables : List ℕ → List ℕ → List ℕ → Store

@@ -1,6 +1,8 @@
 pub mod Dimensions
 pub mod Refusal
 pub mod Lent
+pub mod Loans
+pub mod Viewed
 pub mod Tables
 pub mod Groups
 pub mod Tally

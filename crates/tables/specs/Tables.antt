@@ -9,9 +9,8 @@ pub record Shaped (g : Geometry) (st : Store) : Type 0 where
   pub geometry : good_geometry g ≡ true
   pub lengths : good_lengths g st ≡ true
 
--- and file f is one of theirs, whose slots below its end name blocks of the pool
+-- file f is one of theirs, and its slots below its end name blocks of the pool
 pub record FileKnown (g : Geometry) (st : Store) (f : ℕ) : Type 0 where
-  pub shaped : Shaped g st
   pub file : f < g.F
   pub pool : (k : ℕ) → k < ceil_div (size_of st f) g.B → word_of g st.words f k / 2 ≤ g.N
 

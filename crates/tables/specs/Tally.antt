@@ -1,6 +1,6 @@
 -- The table of holders, filled by one pass over the slot words, and what is read off it.
-use Rattle.std.specs.Prelude.{ℕ, zero, suc, pred, ◌+◌, ◌-◌, ◌/◌, ◌≤◌, ◌<◌, ◌≡◌, Bool, true, ◌&&◌, ◌||◌, List, [], ◌∷◌, length, get_or, set, drop, leb, ltb}
-use Rattle.rules.specs.Lists.{count, all_to}
+use Rattle.std.specs.Prelude.{ℕ, zero, suc, pred, ◌+◌, ◌-◌, ◌/◌, ◌≤◌, ◌<◌, ◌≡◌, Bool, ◌&&◌, ◌||◌, List, [], ◌∷◌, length, get_or, set, drop, leb, ltb}
+use Rattle.rules.specs.Lists.{count}
 use Rattle.rules.specs.Store.{is_hole, is_reserved, holders}
 use Rattle.rules.proofs.PlanLaws.{InPool}
 use Rattle.tables.specs.Tables.{TableTrue}
@@ -18,11 +18,6 @@ some_reserved ws = ltb 0 (count is_reserved ws)
 pub record SlotCounts (ws : List ℕ) (held : ℕ) (reserved : Bool) : Type 0 where
   pub held_is : held ≡ count (ltb 1) ws
   pub reserved_is : reserved ≡ some_reserved ws
-
--- what one pass tells of words, for a pool of n blocks: whether each names one of them or none, and that of words which do
-pub record Scanned (ws : List ℕ) (n : ℕ) (formed : Bool) (held : ℕ) (reserved : Bool) : Type 0 where
-  pub formed_is : formed ≡ all_to (length ws) (λ i. leb (get_or ws i 0 / 2) n)
-  pub slots : formed ≡ true → SlotCounts ws held reserved
 
 -- the counts with one more for block k - 1; a hole's k is 0
 unfoldable pub noted : ℕ → List ℕ → List ℕ
@@ -99,10 +94,10 @@ pub record Scannable (ws counts : List ℕ) : Type 0 where
   pub short : length ws ≤ 65536
   pub few : (b : ℕ) → b < length counts → get_or counts b 0 + holders b ws ≤ 65536
 
--- what the scan tells, and one holder more for each of words that pass it
-pub record ScannedNoted (ws before : List ℕ) (formed : Bool) (held : ℕ) (reserved : Bool) (after : List ℕ) : Type 0 where
-  pub scanned : Scanned ws (length before) formed held reserved
-  pub noted : formed ≡ true → NotedAll ws before after
+-- slots noted, and counted
+pub record SlotsCounted (ws before : List ℕ) (held : ℕ) (reserved : Bool) (after : List ℕ) : Type 0 where
+  pub noted : NotedAll ws before after
+  pub slots : SlotCounts ws held reserved
 
 -- ---- read off the table
 

@@ -2,11 +2,13 @@
 ghost use Rattle.std.specs.Prelude.{◌≡◌, ◌&&◌, ◌||◌, ◌+◌, ◌-◌, ◌*◌, ◌/◌, ◌<◌, ◌≤◌, length, get_or, eqb, ltb};
 ghost use Rattle.rules.specs.Lists.{all_to, ceil_div};
 ghost use Rattle.rules.specs.Store.{word_of, slot_byte, sound_file};
-ghost use Rattle.tables.specs.Lent.{geometry_of, tables};
+ghost use Rattle.tables.specs.Lent.{geometry_of};
 ghost use Rattle.tables.specs.Tables.{FileKnown};
+ghost use Rattle.tables.specs.Viewed.{view_store};
 
 use crate::geometry::Geometry;
 use crate::groups::{Sort, all_of_sort};
+use crate::lent::View;
 
 // Whether a byte is 0 and those before are.
 fn zero_too(before: bool, byte: u8) -> bool
@@ -66,24 +68,25 @@ pub fn slots_of(size: usize, b: usize) -> usize
     whole + 1
 }
 
-// Whether file f is sound. Of the block memory only the bytes past the size, in its last slot's block, are read.
-pub fn file_sound(g: Geometry, sizes: &[u64], words: &[u32], mem: &[u8], f: usize) -> bool
-    requires { FileKnown (geometry_of g) (tables sizes.now words.now mem.now) f }
-    ensures { result ≡ sound_file (geometry_of g) (tables sizes.now words.now mem.now) f }
+// Whether a file is sound. Of the block memory only the bytes past the size, in its last slot's block, are read.
+pub fn file_sound(view: View<'_>, file: usize) -> bool
+    requires { FileKnown (geometry_of view.geometry) (view_store view) file }
+    ensures { result ≡ sound_file (geometry_of view.entry.geometry) (view_store view.entry) file }
 {
-    let bytes = sizes[f];
-    if ((g.slots * g.block_size) as u64) < bytes {
+    let geometry = view.geometry;
+    let bytes = view.sizes[file];
+    if ((geometry.slots * geometry.block_size) as u64) < bytes {
         return false;
     }
     let size = bytes as usize;
-    let end = slots_of(size, g.block_size);
-    if !slots_zero(g, words, f, end) {
+    let end = slots_of(size, geometry.block_size);
+    if !slots_zero(geometry, view.words, file, end) {
         return false;
     }
-    let past = size % g.block_size;
+    let past = size % geometry.block_size;
     if past == 0 {
         return true;
     }
-    let last = words[f * g.slots + size / g.block_size];
-    tail_zero(g, mem, last, past)
+    let last = view.words[file * geometry.slots + size / geometry.block_size];
+    tail_zero(geometry, view.memory, last, past)
 }

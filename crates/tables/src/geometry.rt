@@ -1,6 +1,7 @@
 // The geometry of the lent tables.
 ghost use Rattle.std.specs.Prelude.{◌≡◌, true, IfOk, IfErr, is_ok};
 ghost use Rattle.rules.specs.Store.{good_geometry};
+ghost use Rattle.rules.proofs.GeometryLaws.{Good};
 ghost use Rattle.tables.specs.Dimensions.{numbers};
 
 use crate::refusal::Refusal;
@@ -22,6 +23,7 @@ pub struct Geometry {
     pub blocks: usize,
     pub block_size: usize,
     pub ghost good: { good_geometry (numbers files slots blocks block_size) ≡ true },
+    pub ghost limits: { Good (numbers files slots blocks block_size) },
 }
 
 impl Geometry {

@@ -1,16 +1,81 @@
-// What is lent: the tables, and whether they have their lengths.
-ghost use Rattle.std.specs.Prelude.{◌≡◌};
+// What is lent: the tables, of which nothing is known, and tables that have the lengths of their geometry.
+ghost use Rattle.std.specs.Prelude.{◌≡◌, true};
 ghost use Rattle.rules.specs.Store.{good_lengths};
+ghost use Rattle.rules.proofs.GeometryLaws.{Lengths};
 ghost use Rattle.tables.specs.Lent.{geometry_of, tables};
 
-use crate::geometry::Geometry;
+use crate::geometry::{Dimensions, Geometry};
+use crate::refusal::Refusal;
 
-// Whether the tables have the lengths of a geometry.
-#[tactic(auto, unfolding(rules::specs::Store::good_lengths, rules::specs::Store::good_geometry, rules::specs::Store::good_block_size))]
-pub fn good_lengths(g: Geometry, sizes: &[u64], words: &[u32], mem: &[u8]) -> bool
-    ensures { result ≡ good_lengths (geometry_of g) (tables sizes.now words.now mem.now) }
-{
-    sizes.len() == g.files
-        && words.len() == g.files * g.slots
-        && mem.len() == g.blocks * g.block_size
+// The tables that a caller lends: file sizes, slot words, block memory.
+#[derive(Drop)]
+pub struct Lent<'a> {
+    pub sizes: &'a mut [u64],
+    pub words: &'a mut [u32],
+    pub memory: &'a mut [u8],
+}
+
+// The same, only looked at.
+#[derive(Clone, Copy)]
+pub struct Seen<'a> {
+    pub sizes: &'a [u64],
+    pub words: &'a [u32],
+    pub memory: &'a [u8],
+}
+
+// Tables looked at that have the lengths of their geometry.
+#[derive(Clone, Copy)]
+pub struct View<'a> {
+    pub geometry: Geometry,
+    pub sizes: &'a [u64],
+    pub words: &'a [u32],
+    pub memory: &'a [u8],
+    pub ghost lengths: { good_lengths (geometry_of geometry) (tables sizes.now words.now memory.now) ≡ true },
+    pub ghost fits: { Lengths (geometry_of geometry) (tables sizes.now words.now memory.now) },
+}
+
+impl Lent<'_> {
+    ghost use Rattle.tables.specs.Loans.{lent_store, seen_store};
+
+    pub fn seen(&self) -> Seen<'_>
+        ensures { seen_store result ≡ lent_store self.now }
+    {
+        Seen {
+            sizes: &*self.sizes,
+            words: &*self.words,
+            memory: &*self.memory,
+        }
+    }
+}
+
+impl<'a> Seen<'a> {
+    ghost use Rattle.std.specs.Prelude.{IfOk};
+    ghost use Rattle.rules.specs.Calls.{make_refusal};
+    ghost use Rattle.tables.specs.Lent.{dimensions_of};
+    ghost use Rattle.tables.specs.Loans.{seen_store, refusal_told};
+    ghost use Rattle.tables.specs.Viewed.{view_store};
+
+    // The tables of these dimensions, if they lie inside the limits and the tables have their lengths.
+    #[tactic(auto, unfolding(rules::specs::Store::good_lengths, rules::specs::Store::good_geometry, rules::specs::Store::good_block_size, rules::specs::Calls::make_refusal))]
+    pub fn view(self, dimensions: Dimensions) -> Result<View<'a>, Refusal>
+        ensures refusal { refusal_told result ≡ make_refusal (dimensions_of dimensions) (seen_store self.entry) }
+        ensures geometry { IfOk result (λ v. geometry_of v.geometry ≡ dimensions_of dimensions) }
+        ensures store { IfOk result (λ v. view_store v ≡ seen_store self.entry) }
+    {
+        let geometry = dimensions.geometry()?;
+        let slots = geometry.files * geometry.slots;
+        let bytes = geometry.blocks * geometry.block_size;
+        if self.sizes.len() != geometry.files
+            || self.words.len() != slots
+            || self.memory.len() != bytes
+        {
+            return Err(Refusal::Length);
+        }
+        Ok(View {
+            geometry,
+            sizes: self.sizes,
+            words: self.words,
+            memory: self.memory,
+        })
+    }
 }

@@ -2,9 +2,11 @@
 // shown.
 #![tactic(auto)]
 
+mod counted;
 mod files;
 mod geometry;
 mod groups;
+mod lengths;
 mod lent;
 mod make;
 mod pool;
@@ -15,12 +17,14 @@ mod tally;
 mod view;
 mod words;
 
+pub use counted::Survey;
 pub use geometry::{Dimensions, Geometry};
-pub use lent::good_lengths;
+pub use lengths::good_lengths;
+pub use lent::{Lent, Seen, View};
 pub use make::make_empty;
 pub use pool::{fits_pool, lowest_free, takes_block};
 pub use refusal::Refusal;
-pub use sound::{Surveyed, judge_tables, survey};
+pub use sound::{judge_tables, survey, survey_tables};
 pub use space::{Space, file_space};
-pub use view::{Kind, Place, slot_kind, slot_place, slot_view};
+pub use view::{Place, slot_place, slot_view};
 pub use words::set_word;

@@ -1,51 +1,21 @@
 // Making an empty store.
-ghost use Rattle.std.specs.Prelude.{◌≡◌, length, replicate};
-ghost use Rattle.tables.specs.Lent.{dimensions_of, tables};
 ghost use Rattle.rules.specs.Calls.{MakePromise};
+ghost use Rattle.tables.specs.Lent.{dimensions_of};
+ghost use Rattle.tables.specs.Loans.{lent_store, KeepsLoan, refusal_told};
 
 use crate::geometry::Dimensions;
-use crate::lent::good_lengths;
-use crate::sound::Surveyed;
-
-fn zero_sizes(dst: &mut [u64])
-    ensures { dst.new ≡ replicate (length dst.old) 0 }
-{
-    let mut i = 0;
-    while i < dst.len() {
-        dst[i] = 0;
-        i += 1;
-    }
-}
-
-fn zero_slots(dst: &mut [u32])
-    ensures { dst.new ≡ replicate (length dst.old) 0 }
-{
-    let mut i = 0;
-    while i < dst.len() {
-        dst[i] = 0;
-        i += 1;
-    }
-}
+use crate::lent::Lent;
+use crate::refusal::Refusal;
 
 // Zeroes every table, or answers a refusal and leaves them as they are.
-pub fn make_empty(
-    dimensions: Dimensions,
-    sizes: &mut [u64],
-    words: &mut [u32],
-    mem: &mut [u8],
-) -> u32
-    ensures { MakePromise (dimensions_of dimensions)
-        (tables sizes.old words.old mem.old) result
-        (tables sizes.new words.new mem.new) }
+#[tactic(auto, unfolding(rules::specs::Calls::made_store, rules::specs::Store::empty_store, rules::specs::Store::good_lengths))]
+pub fn make_empty(dimensions: Dimensions, lent: &mut Lent<'_>) -> Result<(), Refusal>
+    ensures made { MakePromise (dimensions_of dimensions) (lent_store lent.old) (refusal_told result) (lent_store lent.new) }
+    ensures lent { KeepsLoan lent.old lent.new }
 {
-    let Ok(g) = dimensions.geometry() else {
-        return Surveyed::GEOMETRY;
-    };
-    if !good_lengths(g, sizes, words, mem) {
-        return Surveyed::LENGTH;
-    }
-    zero_sizes(sizes);
-    zero_slots(words);
-    xdr::zero(mem);
-    0
+    lent.seen().view(dimensions)?;
+    lent.sizes.fill(0);
+    lent.words.fill(0);
+    lent.memory.fill(0);
+    Ok(())
 }

@@ -1,229 +1,108 @@
 // Whether a store is sound, and its used and owed blocks, by one table of holders.
-ghost use Rattle.std.specs.Prelude.{◌≡◌, false, ◌≤◌};
-ghost use Rattle.tables.specs.Lent.{geometry_of, dimensions_of, tables};
-ghost use Rattle.tables.specs.Tables.{Shaped};
+ghost use Rattle.std.specs.Prelude.{◌≡◌, ◌≤◌, is_some, IfSome, length, replicate};
+ghost use Rattle.rules.specs.Attributes.{slots_of};
 ghost use Rattle.rules.specs.Calls.{SurveyPromise};
-ghost use Rattle.tables.specs.Survey.{TableReady, TableFits, FileReady, FileTested, TableTested, TableJudged};
+ghost use Rattle.tables.specs.Lent.{geometry_of, dimensions_of};
+ghost use Rattle.tables.specs.Loans.{seen_store, refusal_told};
+ghost use Rattle.tables.specs.Survey.{tables_pass, file_passes, FileReady, TableJudged, used_told, owed_told};
+ghost use Rattle.tables.specs.Tally.{SlotsCounted, RoomKnown};
+ghost use Rattle.tables.specs.Viewed.{view_store};
 
+use crate::counted::{Counted, Survey};
 use crate::files::{file_sound, slots_of};
-use crate::geometry::{Dimensions, Geometry};
-use crate::lent::good_lengths;
+use crate::geometry::Dimensions;
+use crate::lent::{Seen, View};
 use crate::pool::{fits_of, owed_of, used_blocks};
+use crate::refusal::Refusal;
 use crate::tally::scan_and_note;
 
-// A refusal with zero counts, or 0 with the counts.
-#[derive(Clone, Copy)]
-pub struct Surveyed {
-    pub number: u32,
-    pub used: usize,
-    pub owed: usize,
-}
-
-impl Surveyed {
-    // Refusal numbers: the geometry, a length, a store that is not sound.
-    pub const GEOMETRY: u32 = 1;
-
-    pub const LENGTH: u32 = 2;
-
-    pub const UNSOUND: u32 = 3;
-
-    fn refused(number: u32) -> Surveyed
-        ensures { result ≡ record { number = number; used = 0; owed = 0 } }
-    {
-        Surveyed {
-            number,
-            used: 0,
-            owed: 0,
-        }
-    }
-}
-
-// Whether slots and files pass the tests of a sound store but for the room; and if so, how many slots hold a block, and whether one
-// is reserved.
-#[derive(Clone, Copy)]
-struct Tested {
-    pass: bool,
-    held: usize,
-    reserved: bool,
-}
-
-impl Tested {
-    fn failed() -> Tested
-        ensures { result ≡ record { pass = false; held = 0; reserved = false } }
-    {
-        Tested {
-            pass: false,
-            held: 0,
-            reserved: false,
-        }
-    }
-}
-
-// Tests file f, and notes its slots; those behind its end hold nothing.
-fn test_file(
-    g: Geometry,
-    sizes: &[u64],
-    words: &[u32],
-    mem: &[u8],
-    counts: &mut [u32],
-    f: usize,
-) -> Tested
-    requires { FileReady (geometry_of g) (tables sizes.now words.now mem.now) counts.old f }
-    ensures { FileTested (geometry_of g) (tables sizes.now words.now mem.now) counts.old f
-        result.pass result.held result.reserved counts.new }
+// Tests a file, and notes its slots; those behind its end hold nothing.
+fn test_file(view: View<'_>, counts: &mut [u32], file: usize) -> Option<Counted>
+    requires { FileReady (geometry_of view.geometry) (view_store view) counts.old file }
+    ensures passes { is_some result ≡ file_passes (geometry_of view.entry.geometry) (view_store view.entry) file }
+    ensures counted { IfSome result (λ c. SlotsCounted (slots_of (geometry_of view.entry.geometry) view.entry.words.now file) counts.old c.held c.reserved counts.new) }
 {
-    if ((g.slots * g.block_size) as u64) < sizes[f] {
-        return Tested::failed();
+    let geometry = view.geometry;
+    let size = view.sizes[file];
+    if ((geometry.slots * geometry.block_size) as u64) < size {
+        return None;
     }
-    let at = f * g.slots;
-    let end = at + slots_of(sizes[f] as usize, g.block_size);
-    let scan = scan_and_note(&words[at..end], counts);
-    if !scan.formed {
-        return Tested::failed();
+    let at = file * geometry.slots;
+    let end = at + slots_of(size as usize, geometry.block_size);
+    let counted = scan_and_note(&view.words[at..end], counts)?;
+    if !file_sound(view, file) {
+        return None;
     }
-    if !file_sound(g, sizes, words, mem, f) {
-        return Tested::failed();
-    }
-    Tested {
-        pass: true,
-        held: scan.held,
-        reserved: scan.reserved,
-    }
+    Some(counted)
 }
 
-// Tests tables that have their lengths, file by file. `counts` has a zero for each block; where they pass it is the table of
-// holders afterwards.
-fn test_tables(g: Geometry, sizes: &[u64], words: &[u32], mem: &[u8], counts: &mut [u32]) -> Tested
-    requires { TableReady (geometry_of g) (tables sizes.now words.now mem.now) counts.old }
-    ensures { TableTested (geometry_of g) (tables sizes.now words.now mem.now)
-        result.pass result.held result.reserved counts.new }
+// Tests tables file by file. `counts` has a zero for each block; where they pass it is the table of holders afterwards.
+fn test_tables(view: View<'_>, counts: &mut [u32]) -> Option<Counted>
+    requires { counts.old ≡ replicate view.geometry.blocks 0 }
+    ensures passes { is_some result ≡ tables_pass (geometry_of view.entry.geometry) (view_store view.entry) }
+    ensures counted { IfSome result (λ c. RoomKnown c.held c.reserved view.entry.words.now counts.new) }
 {
-    let mut held: usize = 0;
+    let mut held = 0;
     let mut reserved = false;
-    let mut f = 0;
-    while f < g.files {
-        let t = test_file(g, sizes, words, mem, counts, f);
-        if !t.pass {
-            return Tested::failed();
-        }
-        held += t.held;
-        reserved = reserved | t.reserved;
-        f += 1;
+    for file in 0..view.geometry.files {
+        let counted = test_file(view, counts, file)?;
+        held += counted.held;
+        reserved |= counted.reserved;
     }
-    Tested {
-        pass: true,
-        held,
-        reserved,
-    }
+    Some(Counted { held, reserved })
 }
 
 // Whether the store is sound. Nothing is counted that need not be.
-pub fn judge_tables(
-    g: Geometry,
-    sizes: &[u64],
-    words: &[u32],
-    mem: &[u8],
-    counts: &mut [u32],
-) -> bool
-    requires { TableReady (geometry_of g) (tables sizes.now words.now mem.now) counts.old }
-    ensures { TableJudged (geometry_of g) (tables sizes.now words.now mem.now) result counts.new }
+pub fn judge_tables(view: View<'_>, counts: &mut [u32]) -> bool
+    requires { counts.old ≡ replicate view.geometry.blocks 0 }
+    ensures { TableJudged (geometry_of view.entry.geometry) (view_store view.entry) result counts.new }
 {
-    let t = test_tables(g, sizes, words, mem, counts);
-    if !t.pass {
+    let Some(counted) = test_tables(view, counts) else {
         return false;
-    }
-    fits_of(t.held, t.reserved, words, counts)
+    };
+    fits_of(counted.held, counted.reserved, view.words, counts)
 }
 
-fn survey_tables(
-    g: Geometry,
-    sizes: &[u64],
-    words: &[u32],
-    mem: &[u8],
-    counts: &mut [u32],
-) -> Surveyed
-    requires { TableReady (geometry_of g) (tables sizes.now words.now mem.now) counts.old }
-    ensures { SurveyPromise (geometry_of g) (tables sizes.now words.now mem.now)
-        result.number result.used result.owed }
+fn survey_in(view: View<'_>, counts: &mut [u32]) -> Result<Survey, Refusal>
+    requires { counts.old ≡ replicate view.geometry.blocks 0 }
+    ensures { SurveyPromise (geometry_of view.entry.geometry) (view_store view.entry) (refusal_told result) (used_told result) (owed_told result) }
 {
-    let t = test_tables(g, sizes, words, mem, counts);
-    if !t.pass {
-        return Surveyed::refused(Surveyed::UNSOUND);
-    }
+    let Some(counted) = test_tables(view, counts) else {
+        return Err(Refusal::Unsound);
+    };
     let used = used_blocks(counts);
-    let owed = owed_of(t.held, used, t.reserved, words, counts);
-    if g.blocks < used + owed {
-        return Surveyed::refused(Surveyed::UNSOUND);
+    let owed = owed_of(counted.held, used, counted.reserved, view.words, counts);
+    if view.geometry.blocks < used + owed {
+        return Err(Refusal::Unsound);
     }
-    Surveyed {
-        number: 0,
-        used,
-        owed,
-    }
-}
-
-// The same in a table of any length that has a number for each block.
-fn survey_in(g: Geometry, sizes: &[u64], words: &[u32], mem: &[u8], counts: &mut [u32]) -> Surveyed
-    requires { TableFits (geometry_of g) (tables sizes.now words.now mem.now) counts.old }
-    ensures { SurveyPromise (geometry_of g) (tables sizes.now words.now mem.now)
-        result.number result.used result.owed }
-{
-    let n = g.blocks;
-    survey_tables(g, sizes, words, mem, &mut counts[..n])
+    Ok(Survey { used, owed })
 }
 
 // The same with a table of its own, which it only lends. A small table is cleared faster.
-fn survey_small(g: Geometry, sizes: &[u64], words: &[u32], mem: &[u8]) -> Surveyed
-    requires { Shaped (geometry_of g) (tables sizes.now words.now mem.now) × (g.blocks ≤ 256) }
-    ensures { SurveyPromise (geometry_of g) (tables sizes.now words.now mem.now)
-        result.number result.used result.owed }
+#[inline(never)]
+fn survey_with<const N: usize>(view: View<'_>) -> Result<Survey, Refusal>
+    requires fits { view.geometry.blocks ≤ N }
+    requires small { N ≤ 65536 }
+    ensures { SurveyPromise (geometry_of view.entry.geometry) (view_store view.entry) (refusal_told result) (used_told result) (owed_told result) }
 {
-    let mut counts = [0u32; Geometry::SMALL_POOL];
-    survey_in(g, sizes, words, mem, &mut counts)
+    let mut counts = [0u32; N];
+    survey_in(view, &mut counts[..view.geometry.blocks])
 }
 
-fn survey_middle(g: Geometry, sizes: &[u64], words: &[u32], mem: &[u8]) -> Surveyed
-    requires { Shaped (geometry_of g) (tables sizes.now words.now mem.now) × (g.blocks ≤ 4096) }
-    ensures { SurveyPromise (geometry_of g) (tables sizes.now words.now mem.now)
-        result.number result.used result.owed }
+pub fn survey_tables(view: View<'_>) -> Result<Survey, Refusal>
+    ensures { SurveyPromise (geometry_of view.entry.geometry) (view_store view.entry) (refusal_told result) (used_told result) (owed_told result) }
 {
-    let mut counts = [0u32; Geometry::MIDDLE_POOL];
-    survey_in(g, sizes, words, mem, &mut counts)
-}
-
-fn survey_large(g: Geometry, sizes: &[u64], words: &[u32], mem: &[u8]) -> Surveyed
-    requires { Shaped (geometry_of g) (tables sizes.now words.now mem.now) × (g.blocks ≤ 65536) }
-    ensures { SurveyPromise (geometry_of g) (tables sizes.now words.now mem.now)
-        result.number result.used result.owed }
-{
-    let mut counts = [0u32; Geometry::MAX_BLOCKS];
-    survey_in(g, sizes, words, mem, &mut counts)
-}
-
-fn survey_shaped(g: Geometry, sizes: &[u64], words: &[u32], mem: &[u8]) -> Surveyed
-    requires { Shaped (geometry_of g) (tables sizes.now words.now mem.now) }
-    ensures { SurveyPromise (geometry_of g) (tables sizes.now words.now mem.now)
-        result.number result.used result.owed }
-{
-    if g.blocks <= Geometry::SMALL_POOL {
-        return survey_small(g, sizes, words, mem);
+    match view.geometry.blocks {
+        0..=256 => survey_with::<256>(view),
+        257..=4096 => survey_with::<4096>(view),
+        _ => survey_with::<65536>(view),
     }
-    if g.blocks <= Geometry::MIDDLE_POOL {
-        return survey_middle(g, sizes, words, mem);
-    }
-    survey_large(g, sizes, words, mem)
 }
 
-// The refusal number, or 0 with the used and owed blocks.
-pub fn survey(dimensions: Dimensions, sizes: &[u64], words: &[u32], mem: &[u8]) -> Surveyed
-    ensures { SurveyPromise (dimensions_of dimensions) (tables sizes.now words.now mem.now)
-        result.number result.used result.owed }
+// The used and owed blocks of a sound store, or a refusal.
+#[tactic(auto, unfolding(rules::specs::Calls::make_refusal, rules::specs::Calls::store_refusal, rules::specs::Calls::used_count, rules::specs::Calls::owed_count))]
+pub fn survey(dimensions: Dimensions, seen: Seen<'_>) -> Result<Survey, Refusal>
+    ensures { SurveyPromise (dimensions_of dimensions) (seen_store seen.entry) (refusal_told result) (used_told result) (owed_told result) }
 {
-    let Ok(g) = dimensions.geometry() else {
-        return Surveyed::refused(Surveyed::GEOMETRY);
-    };
-    if !good_lengths(g, sizes, words, mem) {
-        return Surveyed::refused(Surveyed::LENGTH);
-    }
-    survey_shaped(g, sizes, words, mem)
+    survey_tables(seen.view(dimensions)?)
 }

@@ -1,19 +1,11 @@
 // The slot words scanned, and the table of holders filled: one more for the block of each slot.
-ghost use Rattle.std.specs.Prelude.{◌≡◌, cond, pred, ◌+◌, ◌/◌, ◌<◌, ◌≤◌, length, leb, ltb, eqb};
-ghost use Rattle.rules.specs.Lists.{bit, count};
+ghost use Rattle.std.specs.Prelude.{◌≡◌, cond, pred, ◌+◌, ◌/◌, ◌<◌, ◌≤◌, length, get_or, leb, ltb, eqb, is_some, IfSome};
+ghost use Rattle.rules.specs.Lists.{all_to, bit, count};
 ghost use Rattle.rules.specs.Store.{is_hole};
-ghost use Rattle.tables.specs.Tally.{holds_one, Scanned, Scannable, ScannedNoted, noted, Notable, NotableAs, NotesFit, NotesFitAs, NotesFitFrom, GroupsFit, NotedAll, NotedFrom};
+ghost use Rattle.tables.specs.Tally.{holds_one, Scannable, SlotCounts, SlotsCounted, noted, Notable, NotableAs, NotesFit, NotesFitAs, NotesFitFrom, GroupsFit, NotedAll, NotedFrom};
 
+use crate::counted::Counted;
 use crate::groups::{Group, Sort, bit_of_sort, count_of_sort, group_at, of_sort};
-
-// What one pass tells of slot words: whether each names one of the blocks or none; and if so, how many hold a block, and whether one
-// is reserved.
-#[derive(Clone, Copy)]
-pub struct Scan {
-    pub formed: bool,
-    pub held: usize,
-    pub reserved: bool,
-}
 
 // 1 where a slot with word w holds one of the blocks, else 0. Two less, the word of a hole is the greatest: one comparison tells.
 fn holds_one(w: u32, blocks: u32) -> u32
@@ -38,26 +30,24 @@ fn rest_holes(held: usize, words: &[u32]) -> bool
     held + count_of_sort(Sort::AtMost(1), words) == words.len()
 }
 
-pub fn scan_words(words: &[u32], blocks: usize) -> Scan
+// None where a word names a block that is none of so many.
+pub fn scan_words(words: &[u32], blocks: usize) -> Option<Counted>
     requires { (blocks ≤ 65536) × (length words.now ≤ 65536) }
-    ensures { Scanned words.now blocks result.formed result.held result.reserved }
+    ensures formed { is_some result ≡ all_to (length words.now) (λ i. leb (get_or words.now i 0 / 2) blocks) }
+    ensures counted { IfSome result (λ c. SlotCounts words.now c.held c.reserved) }
 {
     let n = blocks as u32;
-    let mut sum: u32 = 0;
+    let mut sum = 0;
     let mut reserved = false;
-    let mut i = 0;
-    while i < words.len() {
-        let w = words[i];
-        sum += holds_one(w, n);
-        reserved = reserved | of_sort(Sort::Reserved, w);
-        i += 1;
+    for word in words {
+        sum += holds_one(*word, n);
+        reserved |= *word % 2 == 1;
     }
     let held = sum as usize;
-    Scan {
-        formed: rest_holes(held, words),
-        held,
-        reserved,
+    if !rest_holes(held, words) {
+        return None;
     }
+    Some(Counted { held, reserved })
 }
 
 // One more holder of the block of word w; a hole has none.
@@ -175,14 +165,12 @@ pub fn note_all(words: &[u32], counts: &mut [u32])
 }
 
 // Scans slots and, where each names one of the blocks or none, notes them.
-pub fn scan_and_note(words: &[u32], counts: &mut [u32]) -> Scan
+pub fn scan_and_note(words: &[u32], counts: &mut [u32]) -> Option<Counted>
     requires { Scannable words.now counts.old }
-    ensures { ScannedNoted words.now counts.old result.formed result.held result.reserved counts.new }
+    ensures formed { is_some result ≡ all_to (length words.now) (λ i. leb (get_or words.now i 0 / 2) (length counts.old)) }
+    ensures counted { IfSome result (λ c. SlotsCounted words.now counts.old c.held c.reserved counts.new) }
 {
-    let scan = scan_words(words, counts.len());
-    if !scan.formed {
-        return scan;
-    }
-    note_counted(scan.held, words, counts);
-    scan
+    let counted = scan_words(words, counts.len())?;
+    note_counted(counted.held, words, counts);
+    Some(counted)
 }

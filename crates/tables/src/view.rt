@@ -1,141 +1,93 @@
 // One slot shown without copying: its part of the block memory, or the zero page that the caller lends.
-ghost use Rattle.std.specs.Prelude.{◌≡◌};
-ghost use Rattle.tables.specs.Lent.{dimensions_of, tables};
-ghost use Rattle.rules.specs.Calls.{slot_refusal, KindPromise};
-ghost use Rattle.tables.specs.View.{PlacePromise, ViewPromise};
+ghost use Rattle.std.specs.Prelude.{◌≡◌, ◌<◌, IfOk};
+ghost use Rattle.rules.specs.Calls.{slot_refusal};
+ghost use Rattle.tables.specs.Lent.{geometry_of, dimensions_of};
+ghost use Rattle.tables.specs.Loans.{seen_store, refusal_told};
+ghost use Rattle.tables.specs.View.{PlacePromise, ViewPromise, hole_told, start_told};
+ghost use Rattle.tables.specs.Viewed.{view_store};
 
 use crate::files::zero_bytes;
 use crate::geometry::Dimensions;
-use crate::sound::{Surveyed, survey};
+use crate::lent::{Seen, View};
+use crate::refusal::Refusal;
+use crate::sound::survey_tables;
 
-// The refusal, and whether the slot is a hole.
-#[derive(Clone, Copy)]
-pub struct Kind {
-    pub number: u32,
-    pub hole: bool,
-}
-
-// That, and where the part starts: in the memory, or for a hole and on a refusal in the page.
-#[derive(Clone, Copy)]
+// Where a slot's part starts: in the memory, or for a hole in the page.
+#[derive(Clone, Copy, Debug)]
 pub struct Place {
-    pub number: u32,
     pub hole: bool,
     pub start: usize,
 }
 
-impl Place {
-    // The refusal number of a file or slot that isn't there.
-    pub const NO_SLOT: u32 = 8;
-}
-
-fn slot_refusal(
+// The tables where a slot can be shown.
+#[tactic(auto, unfolding(rules::specs::Calls::make_refusal, rules::specs::Calls::store_refusal, rules::specs::Calls::slot_refusal))]
+fn slot_tables<'a>(
     dimensions: Dimensions,
-    sizes: &[u64],
-    words: &[u32],
-    mem: &[u8],
+    seen: Seen<'a>,
     page: &[u8],
-    f: usize,
-    k: usize,
-) -> u32
-    ensures { result ≡ slot_refusal (dimensions_of dimensions) (tables sizes.now words.now mem.now) page.now f k }
+    file: usize,
+    slot: usize,
+) -> Result<View<'a>, Refusal>
+    ensures refusal { refusal_told result ≡ slot_refusal (dimensions_of dimensions) (seen_store seen.entry) page.now file slot }
+    ensures slot { IfOk result (λ v. (file < v.geometry.files) × (slot < v.geometry.slots)) }
+    ensures same { IfOk result (λ v. (geometry_of v.geometry ≡ dimensions_of dimensions) × (view_store v ≡ seen_store seen.entry)) }
 {
-    let number = survey(dimensions, sizes, words, mem).number;
-    if number == Surveyed::GEOMETRY {
-        return Surveyed::GEOMETRY;
+    let view = seen.view(dimensions)?;
+    if page.len() != view.geometry.block_size {
+        return Err(Refusal::Length);
     }
-    if number == Surveyed::LENGTH {
-        return Surveyed::LENGTH;
-    }
-    if page.len() != dimensions.block_size {
-        return Surveyed::LENGTH;
-    }
-    if number != 0 {
-        return Surveyed::UNSOUND;
-    }
+    survey_tables(view)?;
     if !zero_bytes(page) {
-        return Surveyed::UNSOUND;
+        return Err(Refusal::Unsound);
     }
-    if dimensions.files <= f {
-        return Place::NO_SLOT;
+    if view.geometry.files <= file || view.geometry.slots <= slot {
+        return Err(Refusal::NoSlot);
     }
-    if dimensions.slots <= k {
-        return Place::NO_SLOT;
-    }
-    0
+    Ok(view)
 }
 
-// The refusal, which of the two slices has the slot's part, and where it starts there.
+// Which of the two slices has the slot's part, and where it starts there.
+#[tactic(auto, unfolding(rules::specs::Calls::slot_is_hole, rules::specs::Calls::slot_start))]
 pub fn slot_place(
     dimensions: Dimensions,
-    sizes: &[u64],
-    words: &[u32],
-    mem: &[u8],
+    seen: Seen<'_>,
     page: &[u8],
-    f: usize,
-    k: usize,
-) -> Place
-    ensures { PlacePromise (dimensions_of dimensions) (tables sizes.now words.now mem.now) page.now f k result.number result.hole result.start }
+    file: usize,
+    slot: usize,
+) -> Result<Place, Refusal>
+    ensures { PlacePromise (dimensions_of dimensions) (seen_store seen.entry) page.now file slot (refusal_told result) (hole_told result) (start_told result) }
 {
-    let number = slot_refusal(dimensions, sizes, words, mem, page, f, k);
-    if number != 0 {
-        return Place {
-            number,
+    let view = slot_tables(dimensions, seen, page, file, slot)?;
+    let block = (view.words[file * view.geometry.slots + slot] / 2) as usize;
+    if block == 0 {
+        return Ok(Place {
             hole: true,
             start: 0,
-        };
+        });
     }
-    let b = (words[f * dimensions.slots + k] / 2) as usize;
-    if b == 0 {
-        return Place {
-            number: 0,
-            hole: true,
-            start: 0,
-        };
-    }
-    Place {
-        number: 0,
+    Ok(Place {
         hole: false,
-        start: (b - 1) * dimensions.block_size,
-    }
+        start: (block - 1) * view.geometry.block_size,
+    })
 }
 
-pub fn slot_kind(
-    dimensions: Dimensions,
-    sizes: &[u64],
-    words: &[u32],
-    mem: &[u8],
-    page: &[u8],
-    f: usize,
-    k: usize,
-) -> Kind
-    ensures { KindPromise (dimensions_of dimensions) (tables sizes.now words.now mem.now) page.now f k result.number result.hole }
-{
-    let p = slot_place(dimensions, sizes, words, mem, page, f, k);
-    Kind {
-        number: p.number,
-        hole: p.hole,
-    }
-}
-
+// The slot's part; on a refusal the page's empty start.
+#[tactic(auto, unfolding(rules::specs::Calls::slot_view, rules::specs::Calls::slot_is_hole, rules::specs::Calls::slot_start))]
 pub fn slot_view<'a>(
     dimensions: Dimensions,
-    sizes: &[u64],
-    words: &[u32],
-    mem: &'a [u8],
+    seen: Seen<'a>,
     page: &'a [u8],
-    f: usize,
-    k: usize,
+    file: usize,
+    slot: usize,
 ) -> &'a [u8]
-    ensures { ViewPromise (dimensions_of dimensions) (tables sizes.now words.now mem.now) mem.entry page.entry f k result }
+    ensures { ViewPromise (dimensions_of dimensions) (seen_store seen.entry) seen.entry.memory page.entry file slot result }
 {
-    let p = slot_place(dimensions, sizes, words, mem, page, f, k);
-    if p.number != 0 {
+    let Ok(place) = slot_place(dimensions, seen, page, file, slot) else {
         return &page[0..0];
-    }
-    if p.hole {
+    };
+    if place.hole {
         return page;
     }
-    let start = p.start;
-    let end = start + dimensions.block_size;
-    &mem[start..end]
+    let end = place.start + dimensions.block_size;
+    &seen.memory[place.start..end]
 }

@@ -7,21 +7,9 @@ use native.Mathlib.Numerals.{add-one, add-two, add-three}
 use native.Mathlib.Omega.{arith}
 use lib.ListN.{length, get_or, set, take, drop, replicate, length-append, length-take, length-drop, get_or-append, drop_of_length-le, length-replicate, length-set, take-append-drop}
 use borrow.Author.Fill.{fill_none, fill_more}
-use lib.Seq.{take-append-le, take-take, drop-append_seam, get_or-append-add, get_or-take, get_or-drop, length-take-le, take_all, take-nil, drop-drop, take-append-add, drop-append-add, sets-eq, take-append_seam, take-suc, take-suc-set, take_at, drop_at}
+use lib.Seq.{take-append-le, take-take, drop-append_seam, get_or-append-add, get_or-take, get_or-drop, length-take-le, take_all, drop-drop, take-append-add, drop-append-add, sets-eq, take-append_seam, take-suc, take-suc-set, take_at, drop_at}
 use borrow.Rule.Slice.PartMut as P
-use Rattle.xdr.specs.Bytes.{part_of, splice, Written}
-
--- ---- a part that is taken
-
-pub part_none : (s : List ℕ) (start len : ℕ) → length s < start → part_of s (record { start = start; len = len }) ≡ []
-unfolding part_of
-part_none s start len h =
-    let k : length s ≤ start = omega arith in
-    rw (drop_of_length-le s k) (take-nil len)
-
-pub part-rest : (s : List ℕ) (start len : ℕ) → length s - start ≤ len → part_of s (record { start = start; len = len }) ≡ drop start s
-unfolding part_of
-part-rest s start len h = take_all len (drop start s) (simp length-drop h)
+use Rattle.xdr.specs.Bytes.{splice, Written}
 
 -- ---- a part that is stored over
 

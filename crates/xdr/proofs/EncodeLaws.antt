@@ -42,6 +42,8 @@ pub length-array : (ns : List ℕ) → length (array ns) ≡ 4 + 4 * length ns
 unfolding array
 length-array ns = rw (length-append (u32 (length ns)) (concat_map u32 ns), length-u32 (length ns), numbers-length ns)
 
+pub ruleset long_lengths = (length-opaque, length-array)
+
 pub opaque-fours : (d : List ℕ) → length (opaque d) % 4 ≡ 0
 opaque-fours d = rw (length-opaque d) (omega arith)
 

@@ -19,6 +19,14 @@ impl<'a> Reader<'a> {
     // The longest opaque data: XDR's own bound where a layout names none.
     pub const MAX_LENGTH: u32 = 4294967295;
 
+    // A reader of all the bytes.
+    pub fn new(bytes: &'a [u8]) -> Self
+        ensures bytes { result.bytes ≡ bytes.entry }
+        ensures place { result.at ≡ 0 }
+    {
+        Reader { bytes, at: 0 }
+    }
+
     // A number of four bytes.
     #[tactic(auto, unfolding(crate::specs::Decode::number, crate::specs::Decode::fixed, crate::specs::Decode::fixed_at, crate::specs::Bytes::part_of))]
     pub fn u32(&mut self) -> Option<u32>
@@ -69,15 +77,12 @@ impl<'a> Reader<'a> {
         ensures value { parsed itself result self.new.at ≡ fixed_at n self.old.bytes.now self.old.at }
         ensures bytes { self.new.bytes ≡ self.old.bytes }
     {
-        let start = self.at;
         let end = self.bytes.len();
-        if end < start {
+        if end < self.at || end - self.at < n {
+            self.at = self.at.max(end);
             return None;
         }
-        if end - start < n {
-            self.at = end;
-            return None;
-        }
+        let start = self.at;
         self.at = start + n;
         Some(Span { start, len: n })
     }

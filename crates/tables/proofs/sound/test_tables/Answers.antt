@@ -1,30 +1,27 @@
+use mathlib.Core.Path.{ap, ◌∙◌}
+use Rattle.std.proofs.Common.{is_some}
 use native.Mathlib.Omega.{arith}
-use borrow.Author.Tests.{not-true, not-false}
-use Rattle.tables.proofs.SurveyLaws.{testing_none, file-ready, testing_fails, held_small, more-small, testing_more, testing_all}
+use Rattle.tables.proofs.SurveyLaws.{view_shaped, file_ready, testing_fails, held_small, more_small, testing_more, testing_all, testing_room}
 use Rattle.tables.proofs.sound.test_tables.Goals as goal
 
-pub loop-f-init : goal.loop-f-init
-loop-f-init c = testing_none _ _ _ c.requires
+pub test_file-requires : goal.test_file-requires
+test_file-requires c = file_ready (view_shaped c.args.view) c.loop-file.invariant c.loop-file-test.true
 
-pub test_file-t-requires : goal.test_file-t-requires
-test_file-t-requires c =
-    file-ready c.requires.shaped c.loop-f.invariant c.loop-f-test.true
-
-pub returns-then-not-t : goal.returns-then-not-t
-returns-then-not-t c =
-    rw c.failed.ensures
-    (testing_fails c.requires.shaped c.loop-f.invariant c.loop-f-test.true c.test_file-t.ensures (not-true _ c.if-not-t.true))
+pub returns-in_err-counted-clause-passes : goal.returns-in_err-counted-clause-passes
+returns-in_err-counted-clause-passes c =
+    ap is_some c.from_residual.ensures ∙ testing_fails (view_shaped c.args.view) c.loop-file.invariant c.loop-file-test.true c.in_err-counted.ensures.passes
 
 pub overflow_add-held : goal.overflow_add-held
 overflow_add-held c =
-    let h = c.requires.shaped in
-    omega (arith, held_small h c.loop-f.invariant, more-small h c.loop-f.invariant c.loop-f-test.true c.test_file-t.ensures (not-false _ c.if-not-t.false))
+    let h = view_shaped c.args.view in
+    omega (arith, held_small h c.loop-file.invariant, more_small h c.loop-file.invariant c.in_ok-counted.ensures.counted)
 
-pub loop-f-preserved : goal.loop-f-preserved
-loop-f-preserved c =
-    let h = c.requires.shaped in
-    testing_more h c.loop-f.invariant c.loop-f-test.true c.test_file-t.ensures (not-false _ c.if-not-t.false)
+pub loop-file-preserved : goal.loop-file-preserved
+loop-file-preserved c =
+    testing_more (view_shaped c.args.view) c.loop-file.invariant c.in_ok-counted.ensures.counted c.loop-file-test.true c.in_ok-counted.ensures.passes
 
-pub returns : goal.returns
-returns c =
-    testing_all c.requires.shaped c.loop-f.invariant c.loop-f-test.false
+pub returns-clause-passes : goal.returns-clause-passes
+returns-clause-passes c = testing_all (view_shaped c.args.view) c.loop-file.invariant c.loop-file-test.false
+
+pub returns-clause-counted : goal.returns-clause-counted
+returns-clause-counted c = testing_room (view_shaped c.args.view) c.loop-file.invariant c.loop-file-test.false

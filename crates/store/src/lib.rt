@@ -11,8 +11,7 @@ mod plan;
 mod planner;
 mod read;
 mod seek;
+mod store;
 
 pub use edit::{Act, Edit, NoSpace, Source};
-pub use edits::apply;
-pub use read::read_bytes;
-pub use seek::{hole_at, piece_end, seek_file};
+pub use store::Store;

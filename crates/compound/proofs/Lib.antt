@@ -1,8 +1,7 @@
 pub mod RunLaws
-pub mod ErrorLaws
 pub mod LeafLaws
 pub mod PieceLaws
 pub mod ReadOps
-pub mod DoesLaws
 pub mod LoopLaws
 pub mod ServeLaws
+pub mod CheckLaws

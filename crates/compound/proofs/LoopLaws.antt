@@ -18,25 +18,18 @@ use Rattle.rules.specs.Run.{State, Event, failed, perform, reached, config}
 use Rattle.rules.specs.Calls.{result_bytes, place_after, last_place, last_of, fresh}
 use Rattle.tables.specs.Tables.{TableTrue}
 use Rattle.rules.proofs.GeometryLaws.{Good, good, block-pos}
-use Rattle.rules.proofs.SoundLaws.{sound-facts, lengths_test, sound_test}
+use Rattle.rules.proofs.SoundLaws.{lengths_test, sound_test}
 use Rattle.rules.proofs.OperationLaws.{Ready, performed}
 use Rattle.rules.proofs.ItemLaws as Items
 use Rattle.rules.proofs.ChainLaws.{Step, decoded, undecoded, step_after, step-known, performed-decodes}
 use Rattle.rules.proofs.PlaceProof.{no-fault, bad-fault}
 use Rattle.compound.specs.declared.run.Progress.{Progress}
 use Rattle.compound.specs.Runner.{state_of, Known, Runs, event_at, Turned, started, RunsAll, RanAll}
-use Rattle.compound.proofs.RunLaws.{perform-item}
+use Rattle.compound.proofs.RunLaws.{known-ready, perform-item}
 use Rattle.xdr.proofs.BytesLaws.{written_none}
 use Rattle.xdr.proofs.ArrayLaws.{concat_map_append}
 
 -- ---- what stays known
-
-pub known-ready : {g : Geometry} {x : State} → Known g x → Ready g x
-known-ready {g} {x} k = record {
-  sound = sound-facts g (block-pos (good g k.shaped.geometry)) x.store k.shaped.lengths k.sound;
-  current = k.current;
-  saved = k.saved;
-}
 
 ready-known : {g : Geometry} {x : State} → good_geometry g ≡ true → Ready g x → Known g x
 ready-known {g} {x} e r = record {
@@ -178,10 +171,10 @@ no-handle : (g : Geometry) (f : ℕ) → ◌≡◌ {A = Option ℕ} none (some f
 no-handle g f e = absurd (let z : ◌≡◌ {A = ℕ} 0 1 = cc in omega arith)
 
 module _ {g : Geometry} {v s : List ℕ} (hv : length v ≡ 8) {st : Store} {ops : ℕ} {before counts₀ : List ℕ} {r₀ : Progress} (a : RunsAll g st counts₀ ops before r₀) where
-  pub held_start : Held g v s st ops r₀.read r₀.at.at before (state_of r₀.at st) counts₀ before r₀
+  pub held_start : Held g v s st ops r₀.read r₀.at.at before (state_of r₀.at.handles st) counts₀ before r₀
   held_start =
       let all : ops ≡ ops - 0 = omega arith in
-      subst (λ (q : Progress). Held g v s st ops r₀.read r₀.at.at before (state_of q.at st) counts₀ before q) (sym a.start) (record {
+      subst (λ (q : Progress). Held g v s st ops r₀.read r₀.at.at before (state_of q.at.handles st) counts₀ before q) (sym a.start) (record {
         zs = [];
         sofar = start-sofar s st r₀.read r₀.at.at before;
         left = ap (λ (m : ℕ). reached (config g v) (fresh st) (items s m r₀.read)) all;
@@ -195,8 +188,8 @@ module _ {g : Geometry} {v s : List ℕ} (hv : length v ≡ 8) {st : Store} {ops
         long = refl;
       })
 
-  module _ {counts reply : List ℕ} {r : Progress} {st₁ : Store} (h : Held g v s st ops r₀.read r₀.at.at before (state_of r.at st₁) counts reply r) where
-    pub held-runs : r.count < ops → Runs g (state_of r.at st₁) counts reply r.at.at × (r.count < 12)
+  module _ {counts reply : List ℕ} {r : Progress} {st₁ : Store} (h : Held g v s st ops r₀.read r₀.at.at before (state_of r.at.handles st₁) counts reply r) where
+    pub held-runs : r.count < ops → Runs g (state_of r.at.handles st₁) counts reply r.at.at × (r.count < 12)
     held-runs l = (
       record {
         known = h.known;
@@ -214,12 +207,12 @@ module _ {g : Geometry} {v s : List ℕ} (hv : length v ≡ 8) {st : Store} {ops
         rw (h.left, none_left, append-nil h.zs) h.sofar.ran
 
     module _ (l : r.count < ops) {r' : Progress} {after : Store} {counts' reply' : List ℕ}
-        (t : Turned (event_at (config g v) (state_of r.at st₁) s r.read) (fault_at s r.read) r r' after counts' reply reply') where
+        (t : Turned (event_at (config g v) (state_of r.at.handles st₁) s r.read) (fault_at s r.read) r r' after counts' reply reply') where
       abbrev z : Event
-      z = event_at (config g v) (state_of r.at st₁) s r.read
+      z = event_at (config g v) (state_of r.at.handles st₁) s r.read
 
-      stands : Stands g v s (state_of r.at st₁) r.read z
-      stands = stands_at g v s hv (state_of r.at st₁) h.known r.read
+      stands : Stands g v s (state_of r.at.handles st₁) r.read z
+      stands = stands_at g v s hv (state_of r.at.handles st₁) h.known r.read
 
       step_left : ops - r.count ≡ suc (ops - r'.count)
       step_left = omega (arith, l, t.count_is)
@@ -231,25 +224,25 @@ module _ {g : Geometry} {v s : List ℕ} (hv : length v ≡ 8) {st : Store} {ops
       held-stop n =
           let fails : z.status ≢ 0 = λ e. n (t.answered.status_is ∙ e) in
           let all : reached (config g v) (fresh st) (items s ops r₀.read) ≡ h.zs ++ (z ∷ []) =
-          h.left ∙ ap (λ m. h.zs ++ reached (config g v) (state_of r.at st₁) (items s m r.read)) step_left
+          h.left ∙ ap (λ m. h.zs ++ reached (config g v) (state_of r.at.handles st₁) (items s m r.read)) step_left
           ∙ ap (λ y. h.zs ++ y) (stands.off fails (ops - r'.count)) in
           rw all sofar-more.ran
 
       pub held_more : r'.status ≡ 0 → length after.sizes ≡ length st₁.sizes → length after.words ≡ length st₁.words
           → length after.mem ≡ length st₁.mem → length counts' ≡ length counts → length reply' ≡ length reply
-          → Held g v s st ops r₀.read r₀.at.at before (state_of r'.at after) counts' reply' r'
+          → Held g v s st ops r₀.read r₀.at.at before (state_of r'.at.handles after) counts' reply' r'
       held_more e hs hw hm hc hr =
           let goes : z.status ≡ 0 = sym t.answered.status_is ∙ e in
-          let next : z.after ≡ state_of r'.at after = sym t.answered.state_is in
+          let next : z.after ≡ state_of r'.at.handles after = sym t.answered.state_is in
           record {
             zs = h.zs ++ (z ∷ []);
             sofar = sofar-more;
             left =
-                h.left ∙ ap (λ m. h.zs ++ reached (config g v) (state_of r.at st₁) (items s m r.read)) step_left
+                h.left ∙ ap (λ m. h.zs ++ reached (config g v) (state_of r.at.handles st₁) (items s m r.read)) step_left
                 ∙ ap (λ y. h.zs ++ y) (stands.on goes (ops - r'.count))
                 ∙ ap (λ y. h.zs ++ (z ∷ reached (config g v) y (items s (ops - r'.count) (place_after r.read z.item)))) next
-                ∙ ap (λ p. h.zs ++ (z ∷ reached (config g v) (state_of r'.at after) (items s (ops - r'.count) p))) (sym t.read_is)
-                ∙ sym (append_assoc h.zs (z ∷ []) (reached (config g v) (state_of r'.at after) (items s (ops - r'.count) r'.read)));
+                ∙ ap (λ p. h.zs ++ (z ∷ reached (config g v) (state_of r'.at.handles after) (items s (ops - r'.count) p))) (sym t.read_is)
+                ∙ sym (append_assoc h.zs (z ∷ []) (reached (config g v) (state_of r'.at.handles after) (items s (ops - r'.count) r'.read)));
             within = omega (arith, l, t.count_is);
             known = subst (Known g) next stands.known;
             counted = t.answered.counted;

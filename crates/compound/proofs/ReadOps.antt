@@ -16,7 +16,6 @@ use Rattle.rules.specs.Store.{Geometry, Store, size_of, bytes_from, sound}
 use Rattle.rules.specs.Attributes.{space_used, space_freed, Attr, FileAttrs, file_attrs}
 use Rattle.rules.specs.Read.{granted, read_pieces, seek_place}
 use Rattle.rules.specs.Operation.{attrs_reply, piece_bytes, read_reply, read_plus_reply, seek_result, seek_reply}
-use Rattle.rules.specs.Run.{file_of}
 use Rattle.tables.specs.Tables.{Shaped}
 use Rattle.tables.specs.Space.{SpaceIs}
 use Rattle.tables.proofs.SpaceLaws.{used-most, freed_most}
@@ -27,9 +26,8 @@ use Rattle.rules.proofs.GeometryLaws.{Good, good, lengths}
 use Rattle.rules.proofs.SoundLaws.{sound-facts}
 use Rattle.rules.proofs.BodyLaws.{read-plus-most}
 use Rattle.compound.proofs.PieceLaws.{length-pieces}
-use Rattle.compound.specs.declared.answer.Position.{Position}
-use Rattle.compound.specs.Runner.{file_in, state_of, Known, Shows, Seeks, AttrsKnown, Views, Viewed}
-use Rattle.compound.proofs.RunLaws.{current-known}
+use Rattle.rules.specs.Run.{State}
+use Rattle.compound.specs.Runner.{Known, Shows, Seeks, AttrsKnown, Views, Viewed}
 
 -- written as other bytes that are the same
 written_as : {bs cs : List ℕ} {n at q : ℕ} {x y : List ℕ} → bs ≡ cs → Written bs n at x y q → Written cs (length cs) at x y q
@@ -167,10 +165,10 @@ module _ {g : Geometry} {sizes ws counts : List ℕ} {f : ℕ} {reply : List ℕ
 -- ---- the result
 
 -- the file that is shown, and the room for its body behind number and status
-pub shows-there : {g : Geometry} (p : Position) {st : Store} → Known g (state_of p st) → {f at q : ℕ} {bs before reply : List ℕ} → f ≡ file_of (file_in p.current)
-    → at + 2179 ≤ length before → Written bs 8 at before reply q → Shows g st f reply q
-shows-there p k e h w =
-    record { shaped = k.shaped; sound = k.sound; file = rw e (current-known p k); room = omega (arith, w.place, written-length (omega (arith, h)) w, h) }
+pub shows-there : {g : Geometry} {x : State} → Known g x → {f at q : ℕ} {bs before reply : List ℕ} → f < g.F
+    → at + 2179 ≤ length before → Written bs 8 at before reply q → Shows g x.store f reply q
+shows-there k e h w =
+    record { shaped = k.shaped; sound = k.sound; file = e; room = omega (arith, w.place, written-length (omega (arith, h)) w, h) }
 
 -- GETFH: a handle as opaque data, four bytes with no pad
 pub handle-bytes : (f : ℕ) → opaque (u32 f) ≡ u32 4 ++ u32 f

@@ -2,65 +2,54 @@
 use Prim.Native.Nat.{ℕ, zero, suc, ◌+◌, ◌-◌, ◌^◌, ◌≤◌, ◌<◌}
 use mathlib.Core.Path.{◌≡◌, refl, sym, ap, ◌∙◌, subst}
 use mathlib.Core.Bool.{Bool, true, false, cond}
-use mathlib.Core.Option.{Option, none, some}
 use mathlib.Core.List.{List, [], ◌++◌, append_assoc}
 use mathlib.Core.Logic.{◌≢◌}
 use native.Mathlib.Decide.{dec_lt}
 use native.Mathlib.Omega.{arith}
 use borrow.Author.Tests.{le-leb}
 use lib.ListN.{length}
-use Rattle.xdr.specs.declared.bytes.Span.{Span}
-use Rattle.xdr.specs.Bytes.{part_of, splice}
+use Rattle.xdr.specs.Bytes.{splice}
 use Rattle.xdr.specs.Encode.{u32}
 use Rattle.rules.specs.Lists.{first}
 use Rattle.rules.specs.Store.{Geometry, Store, need, fits_pool}
 use Rattle.rules.specs.Edit.{Edit, edited}
 use Rattle.rules.specs.Operation.{NOSPC, Op, Item, op, bad, op_number, item_at}
 use Rattle.rules.specs.Fault.{NOWHERE, fault_at}
-use Rattle.rules.specs.Run.{State, file_of, Config, Event, failed, errors, sets, shows, edits, does, effect, body, counted_after, perform}
+use Rattle.rules.specs.Run.{State, Config, Event, failed, errors, sets, shows, edits, does, edit_of, effect, body, counted_after, perform}
 use Rattle.rules.specs.Calls.{item_number, result_bytes, place_after}
 use Rattle.tables.specs.Tables.{TableTrue}
 use Rattle.store.specs.declared.edit.Edit as Code
-use Rattle.store.specs.EditPromises.{EditKnown, EditPromise, judged}
-use Rattle.store.specs.Edits.{Applies}
-use Rattle.rules.proofs.GeometryLaws.{good, lengths, block-pos, file-most}
+use Rattle.store.specs.EditPromises.{EditPromise, judged}
+use Rattle.store.specs.Edits.{edit_from, ActKnown, Applies}
+use Rattle.rules.proofs.GeometryLaws.{good, block-pos, file-most}
 use Rattle.rules.proofs.SoundLaws.{sound-facts}
-use Rattle.rules.proofs.OperationLaws.{performed, performed-item}
+use Rattle.rules.proofs.EditLaws.{lawful-file, lawful-fits}
+use Rattle.rules.proofs.OperationLaws.{Ready, effect-edit, performed, performed-item}
 use Rattle.compound.specs.declared.answer.Position.{Position}
 use Rattle.compound.specs.declared.answer.Answer.{Answer}
 use Rattle.compound.specs.declared.does.Does.{Does}
 use Rattle.compound.specs.declared.run.Progress.{Progress}
-use Rattle.compound.specs.Runner.{file_in, state_of, Known, Named, Runs, Wrote, Answered, event_at, Turned}
-use Rattle.compound.specs.Does.{AppliesIn}
+use Rattle.compound.specs.Runner.{file_in, state_of, Known, Runs, Wrote, Answered, event_at, Turned}
+use Rattle.compound.specs.declared.handles.Handles.{Handles}
+use Rattle.compound.specs.declared.check.Context.{Context}
+use Rattle.wire.specs.declared.status.Status.{Status}
+use Rattle.wire.specs.Status.{number_of}
+use Rattle.tables.specs.Lent.{geometry_of}
+use Rattle.std.proofs.Common.{Result, Ok, Err}
+use Rattle.compound.specs.Does.{state_in, does_of, AllowedIn, Checked}
 
 -- ---- what is known of the state
+
+pub known-ready : {g : Geometry} {x : State} → Known g x → Ready g x
+known-ready {g} {x} k = record {
+  sound = sound-facts g (block-pos (good g k.shaped.geometry)) x.store k.shaped.lengths k.sound;
+  current = k.current;
+  saved = k.saved;
+}
 
 -- a sound store has room for what it holds
 has_room : {g : Geometry} {x : State} → Known g x → need x.store.words ≤ g.N
 has_room {g} {x} k = (sound-facts g (block-pos (good g k.shaped.geometry)) x.store k.shaped.lengths k.sound).room
-
--- no handle stands for file 0, and there is one
-file-known : (n : ℕ) (u : Option ℕ) → 1 ≤ n → ((f : ℕ) → u ≡ some f → f < n) → file_of u < n
-file-known n none h k = h
-file-known n (some f) h k = k f refl
-
-module _ {g : Geometry} (p : Position) {st : Store} (k : Known g (state_of p st)) where
-  pub current-known : file_of (file_in p.current) < g.F
-  current-known = file-known g.F (file_in p.current) (good g k.shaped.geometry).files k.current
-
-  pub named : Named g st.sizes p
-  named =
-      let long = (lengths g st k.shaped.lengths).files in
-      record {
-        geometry = k.shaped.geometry;
-        current = omega (arith, current-known, long);
-        saved = omega (arith, file-known g.F (file_in p.saved) (good g k.shaped.geometry).files k.saved, long);
-      }
-
-pub edit-known : {g : Geometry} {counts reply : List ℕ} (p : Position) {st : Store} {at : ℕ} → Runs g (state_of p st) counts reply at
-    → EditKnown g st counts (file_of (file_in p.current))
-edit-known p r =
-    record { shaped = r.known.shaped; sound = r.known.sound; counted = r.counted; blocks = r.blocks; file = current-known p r.known }
 
 -- ---- the rules' event
 
@@ -87,13 +76,13 @@ module _ (c : Config) (x : State) (o : Op) (next : ℕ) where
 
 -- number, status and body are the event's, and the state after it is that of the handles p and the tables
 pub answers : {z : Event} {number status : ℕ} {b : List ℕ} {p : Position} {r : Answer} {after : Store} {counts before reply : List ℕ}
-    → item_number z.item ≡ number → z.status ≡ status → z.body ≡ b → state_of p after ≡ z.after → TableTrue after.words counts
+    → item_number z.item ≡ number → z.status ≡ status → z.body ≡ b → state_of p.handles after ≡ z.after → TableTrue after.words counts
     → Wrote number status b p r before reply → Answered z r after counts p.at before reply
 answers {z} {number} {status} {b} {p} {r} {after} {counts} {before} k e h same t w =
     let is : (u32 number ++ u32 status) ++ b ≡ result_bytes z = rw (k, e, h) (append_assoc (u32 number) (u32 status) b) in
     record {
       status_is = w.status_is ∙ sym e;
-      state_is = (λ i. record { current = file_in (w.current_is i); saved = file_in (w.saved_is i); store = after }) ∙ same;
+      state_is = ap (λ (h : Handles). state_of h after) w.handles_are ∙ same;
       counted = t;
       written = record {
         bytes = w.written.bytes ∙ ap (λ (l : List ℕ). splice before p.at l) is;
@@ -104,7 +93,7 @@ answers {z} {number} {status} {b} {p} {r} {after} {counts} {before} k e h same t
 
 module _ (c : Config) (p : Position) (st : Store) (o : Op) (next : ℕ) {number : ℕ} (same : number ≡ op_number o) where
   abbrev here : State
-  here = state_of p st
+  here = state_of p.handles st
 
   abbrev z : Event
   z = perform c here o next
@@ -121,7 +110,7 @@ module _ (c : Config) (p : Position) (st : Store) (o : Op) (next : ℕ) {number 
       fits = le-leb (need st.words) c.geometry.N (has_room k)
 
       pub answers-sets : {r : Answer} {counts before reply : List ℕ} → TableTrue st.words counts → {q : Position} → Wrote number 0 [] q r before reply
-          → q.at ≡ p.at → sets (file_in q.current) (file_in q.saved) ≡ does c.geometry here o → Answered z r st counts p.at before reply
+          → q.at ≡ p.at → sets (file_in q.handles.current) (file_in q.handles.saved) ≡ does c.geometry here o → Answered z r st counts p.at before reply
       unfolding effect body
       answers-sets t w place d =
           rw (perform-done c here o next clear (rw (← d, counted_after, effect) fits), ← d, effect, body, ← place)
@@ -146,8 +135,8 @@ module _ (c : Config) (p : Position) (st : Store) (o : Op) (next : ℕ) {number 
           stays : after ≡ judged c.geometry st (edited c.geometry st e)
           stays = λ i. record { sizes = m.sizes_are i; words = m.words_are i; mem = m.mem_is i }
 
-          with_store : {a b : Store} → a ≡ b → state_of p a ≡ state_of p b
-          with_store q = ap (λ (u : Store). state_of p u) q
+          with_store : {a b : Store} → a ≡ b → state_of p.handles a ≡ state_of p.handles b
+          with_store q = ap (λ (u : Store). state_of p.handles u) q
 
           go : (t : Bool) → ok ≡ t → Answered z r after counts p.at before reply
           go true q =
@@ -159,11 +148,35 @@ module _ (c : Config) (p : Position) (st : Store) (o : Op) (next : ℕ) {number 
               rw (perform-full c here o next clear (rw (← d, counted_after, effect) f))
               (answers (sym same) refl refl (with_store (stays ∙ judged-is false f)) m.counted (rw q at w))
 
+-- ---- what the tests of an operation say
+
+pub checked-error : {c : Context} {o : Op} {r : Result Does Status} {e : Status} → Checked c o r → r ≡ Err e
+    → (number_of e ≡ first (errors (geometry_of c.geometry) (state_in c) o)) × (number_of e ≢ 0)
+checked-error {c} {o} k q = let m = subst (Checked c o) q k in (m.error, λ z. omega (arith, m.failed, z))
+
+pub checked-clear : {c : Context} {o : Op} {r : Result Does Status} {d : Does} → Checked c o r → r ≡ Ok d
+    → first (errors (geometry_of c.geometry) (state_in c) o) ≡ 0
+checked-clear {c} {o} k q = sym (subst (Checked c o) q k).error
+
+pub checked-does : {c : Context} {o : Op} {r : Result Does Status} {d e : Does} → Checked c o r → r ≡ Ok d → d ≡ e
+    → (does_of c e ≡ does (geometry_of c.geometry) (state_in c) o) × AllowedIn c e
+checked-does {c} {o} k q s = let m = subst (Checked c o) (q ∙ ap (λ (d : Does). Ok d) s) k in (m.does, m.allowed)
+
 -- ---- what the store asks of an edit
 
-pub edit-applies : {g : Geometry} (s : List ℕ) {st : Store} {counts part : List ℕ} (r : Does) {e : Code.Edit} {d : Span} → r ≡ Does.Edits e d → part ≡ part_of s d
-    → AppliesIn g s st counts r → Applies g st counts e part
-edit-applies s r is q a = rw q (rw is at a)
+pub edit-applies : {g : Geometry} {x : State} {counts reply : List ℕ} {at : ℕ} → Runs g x counts reply at → (o : Op) → first (errors g x o) ≡ 0
+    → {e : Code.Edit} {d : List ℕ} {b : List ℕ → List ℕ} → edits (edit_from e d) b ≡ does g x o → ActKnown g x.store e.file e.off e.end d e.act
+    → Applies g x.store counts e d
+unfolding edit_of
+edit-applies {g} {x} r o clear {e} {d} is act =
+    let n = good g r.known.shaped.geometry in
+    let k = known-ready r.known in
+    let l = (effect-edit g n.block x k o clear (edit_from e d) (rw (← is, edit_of) refl)).0 in
+    record {
+      known = record { shaped = r.known.shaped; sound = r.known.sound; counted = r.counted; blocks = r.blocks; file = lawful-file l };
+      fits = lawful-fits k.sound l;
+      act = act;
+    }
 
 pub region-small : {g : Geometry} {st : Store} {counts : List ℕ} {e : Code.Edit} {d : List ℕ} → Applies g st counts e d → e.end - e.off < 2 ^ 32
 region-small {g} {e = e} a = go (dec_lt e.off e.end)
@@ -183,9 +196,9 @@ stepped c x o r a = record { answered = a; count_is = refl; read_is = sym (ap (p
 -- what does not decode
 pub stopped : {number status place : ℕ} {r : Progress} {a : Answer} {before reply : List ℕ} → Wrote number status [] r.at a before reply
     → (st : Store) (counts : List ℕ) → TableTrue st.words counts
-    → Turned (failed (bad number status) (state_of r.at st) status) place r (record { status = status; count = r.count + 1; read = r.read; place = place; at = a.after }) st counts before reply
+    → Turned (failed (bad number status) (state_of r.at.handles st) status) place r (record { status = status; count = r.count + 1; read = r.read; place = place; at = a.after }) st counts before reply
 stopped {number} {status} {place} {r} w st counts t = record {
-  answered = rw w.status_is at (answers {z = failed (bad number status) (state_of r.at st) status} {after = st} refl refl refl refl t w);
+  answered = rw w.status_is at (answers {z = failed (bad number status) (state_of r.at.handles st) status} {after = st} refl refl refl refl t w);
   count_is = refl;
   read_is = refl;
   place_is = refl;

@@ -1,22 +1,35 @@
--- What the code's account of an operation says.
-use Rattle.std.specs.Prelude.{ℕ, ◌+◌, ◌-◌, ◌^◌, ◌<◌, ◌≡◌, cond, List, [], length, get_or, eqb}
+-- What is found of an operation before it is run: its first error, or what it does.
+use Rattle.std.specs.Prelude.{ℕ, ◌-◌, ◌<◌, ◌≡◌, true, cond, ◌||◌, not, List, [], Some, Result, Ok, Err, IfOk, IfErr}
 use Rattle.xdr.specs.Bytes.{part_of}
 use Rattle.xdr.specs.Encode.{u32, opaque}
+use Rattle.rules.specs.Lists.{first}
 use Rattle.rules.specs.Store.{Geometry, Store}
 use Rattle.rules.specs.Attributes.{file_attrs}
-use Rattle.rules.specs.Operation.{Op, attrs_reply, read_reply, read_plus_reply, seek_reply, write_reply, copy_reply}
-use Rattle.rules.specs.Run.{file_of, Does, sets, shows, edits, does}
+use Rattle.rules.specs.Operation.{Op, attrs_reply, read_reply, read_plus_reply, seek_reply, write_reply, copy_reply, NOFILEHANDLE, BAD_STATEID}
+use Rattle.rules.specs.Run.{State, no_file, read_stateid, zero_stateid, Does, sets, shows, edits, does, errors}
+use Rattle.tables.specs.Lent.{geometry_of, tables}
 use Rattle.store.specs.declared.edit.Act.{Act}
 use Rattle.store.specs.declared.edit.Edit.{Edit}
-use Rattle.store.specs.EditPromises.{EditKnown}
-use Rattle.store.specs.Edits.{edit_from, Applies}
-use Rattle.compound.specs.declared.answer.Position.{Position}
-use Rattle.wire.specs.declared.operation.CloneArgs.{CloneArgs}
+use Rattle.store.specs.Edits.{edit_from, ActKnown}
 use Rattle.wire.specs.Attrs.{asks}
+use Rattle.wire.specs.declared.operation.CloneArgs.{CloneArgs}
+use Rattle.wire.specs.declared.status.Status.{Status}
+use Rattle.wire.specs.Status.{number_of}
+use Rattle.compound.specs.declared.check.Context.{Context}
 use Rattle.compound.specs.declared.reads.View.{View}
 use Rattle.compound.specs.declared.does.Does as Code
-use Rattle.compound.specs.Runner.{file_in, state_of, Named}
-use Rattle.compound.specs.Errors.{FirstError}
+use Rattle.compound.specs.Runner.{file_in, state_of}
+
+-- the status number of an answer, 0 where there is no error
+abbrev pub first_of : {A : Type 0} → Result A Status → ℕ
+first_of (Ok _) = 0
+first_of (Err e) = number_of e
+
+abbrev pub store_in : Context → Store
+store_in c = tables c.sizes.now c.words.now c.memory.now
+
+abbrev pub state_in : Context → State
+state_in c = state_of c.handles (store_in c)
 
 -- the bytes that a view shows of file f
 abbrev pub view_bytes : Geometry → Store → ℕ → View → List ℕ
@@ -37,31 +50,33 @@ act_bytes Act.Deallocate n v = []
 abbrev pub edit_bytes : Edit → List ℕ → List ℕ
 edit_bytes e v = act_bytes e.act (e.end - e.off) v
 
--- in the state of handles p and store st, for request s
-abbrev pub does_of : Geometry → List ℕ → Position → Store → Code.Does → Does
-does_of g s p st (Code.Does.Sets current saved) = sets (file_in current) (file_in saved)
-does_of g s p st (Code.Does.Shows v) = shows (view_bytes g st (file_of (file_in p.current)) v)
-does_of g s p st (Code.Does.Edits e d) = edits (edit_from e (part_of s d)) (edit_bytes e)
+abbrev pub does_of : Context → Code.Does → Does
+does_of c (Code.Does.Sets h) = sets (file_in h.current) (file_in h.saved)
+does_of c (Code.Does.Shows f v) = shows (view_bytes (geometry_of c.geometry) (store_in c) f v)
+does_of c (Code.Does.Edits e d) = edits (edit_from e (part_of c.request.now d)) (edit_bytes e)
 
--- what the store asks where it is an edit
-abbrev pub AppliesIn : Geometry → List ℕ → Store → List ℕ → Code.Does → Type 0
-AppliesIn g s st counts (Code.Does.Sets current saved) = Unit {0}
-AppliesIn g s st counts (Code.Does.Shows v) = Unit {0}
-AppliesIn g s st counts (Code.Does.Edits e d) = Applies g st counts e (part_of s d)
+-- what no error says of its file, and of its act
+abbrev pub AllowedIn : Context → Code.Does → Type 0
+AllowedIn c (Code.Does.Sets h) = Unit {0}
+AllowedIn c (Code.Does.Shows f v) = f < c.geometry.files
+AllowedIn c (Code.Does.Edits e d) = ActKnown (geometry_of c.geometry) (store_in c) e.file e.off e.end (part_of c.request.now d) e.act
 
--- the source is a file, and the target's region has an end
-pub record SourceRead (sizes : List ℕ) (p : Position) (a : CloneArgs) : Type 0 where
-  pub file : file_of (file_in p.saved) < length sizes
-  pub sum : a.to + cond (eqb a.count 0) (get_or sizes (file_of (file_in p.saved)) 0 - a.from) a.count < 2 ^ 64
+-- of COPY and CLONE: the first error of what comes first, or else k
+abbrev pub first_pair : Context → CloneArgs → ℕ → ℕ
+first_pair c a k =
+    cond (no_file (file_in c.handles.saved) || no_file (file_in c.handles.current)) NOFILEHANDLE
+    (cond (not (read_stateid (part_of c.request.now a.source)) || not (zero_stateid (part_of c.request.now a.target))) BAD_STATEID k)
 
--- an operation without error, in some geometry, and handles that name files
-pub record Clear (sizes : List ℕ) (p : Position) (o : Op) : Type 0 where
-  pub geometry : Geometry
-  pub named : Named geometry sizes p
-  pub no_error : FirstError geometry sizes p o 0
+-- source and file are the saved and the current one, and both stateids pass
+pub record Paired (c : Context) (a : CloneArgs) (source file : ℕ) : Type 0 where
+  pub saved : c.handles.saved ≡ Some source
+  pub current : c.handles.current ≡ Some file
+  pub readable : read_stateid (part_of c.request.now a.source) ≡ true
+  pub editable : zero_stateid (part_of c.request.now a.target) ≡ true
 
--- r is what it does, in every state with these handles and sizes
-pub record DoesAs (sizes s : List ℕ) (p : Position) (o : Op) (r : Code.Does) : Type 0 where
-  pub is : (g : Geometry) (st : Store) → st.sizes ≡ sizes → does_of g s p st r ≡ does g (state_of p st) o
-  pub applies : (g : Geometry) (st : Store) (counts : List ℕ) → st.sizes ≡ sizes → FirstError g sizes p o 0
-      → EditKnown g st counts (file_of (file_in p.current)) → AppliesIn g s st counts r
+-- r is the first error of operation o, NOSPC aside, or what it does
+pub record Checked (c : Context) (o : Op) (r : Result Code.Does Status) : Type 0 where
+  pub error : first_of r ≡ first (errors (geometry_of c.geometry) (state_in c) o)
+  pub failed : IfErr r (λ e. 0 < number_of e)
+  pub does : IfOk r (λ d. does_of c d ≡ does (geometry_of c.geometry) (state_in c) o)
+  pub allowed : IfOk r (λ d. AllowedIn c d)

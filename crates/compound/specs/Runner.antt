@@ -1,18 +1,19 @@
 -- The runner's values and what its functions leave. Contracts cite these records.
-use Rattle.std.specs.Prelude.{ℕ, ◌+◌, ◌≤◌, ◌<◌, ◌≡◌, true, cond, List, ◌++◌, length, get_or, eqb}
+use Rattle.std.specs.Prelude.{ℕ, ◌+◌, ◌≤◌, ◌<◌, ◌≡◌, true, cond, Some, None, List, ◌++◌, length, get_or, eqb}
+use Rattle.std.specs.declared.option.Option as Std
 use Rattle.std.proofs.Math.Option.{Option, none, some}
 use Rattle.xdr.specs.Bytes.{Written}
 use Rattle.xdr.specs.Encode.{u32, u64, concat_map}
-use Rattle.rules.specs.Store.{Geometry, good_geometry, Store, sound}
+use Rattle.rules.specs.Store.{Geometry, Store, sound}
 use Rattle.rules.specs.Operation.{BADXDR, op, bad, item_at, Header}
 use Rattle.rules.specs.Fault.{NOWHERE, fault_at}
-use Rattle.rules.specs.Run.{State, file_of, Config, config, Event, failed, perform}
+use Rattle.rules.specs.Run.{State, Config, config, Event, failed, perform}
 use Rattle.rules.specs.Calls.{compound, result_bytes, place_after, last_place, last_status, last_store, Call, Outcome, with_place, served, last_fault, Gives}
 use Rattle.store.specs.Readable.{Placed}
 use Rattle.tables.specs.Lent.{geometry_of}
 use Rattle.tables.specs.Tables.{Shaped, TableTrue}
 use Rattle.tables.specs.Space.{SpaceKnown}
-use Rattle.compound.specs.declared.answer.Handle.{Handle}
+use Rattle.compound.specs.declared.handles.Handles.{Handles}
 use Rattle.compound.specs.declared.answer.Position.{Position}
 use Rattle.compound.specs.declared.answer.Answer.{Answer}
 use Rattle.compound.specs.declared.run.Config as Code
@@ -26,13 +27,13 @@ abbrev pub config_of : Code.Config → Config
 config_of c = config (geometry_of c.geometry) (u64 c.verifier)
 
 -- the file that a handle of the code names
-abbrev pub file_in : Handle → Option ℕ
-file_in Handle.Nothing = none
-file_in (Handle.File f) = some f
+abbrev pub file_in : Std.Option ℕ → Option ℕ
+file_in None = none
+file_in (Some f) = some f
 
--- the handles of p and the lent tables
-abbrev pub state_of : Position → Store → State
-state_of p st = record { current = file_in p.current; saved = file_in p.saved; store = st }
+-- the handles and the lent tables
+abbrev pub state_of : Handles → Store → State
+state_of h st = record { current = file_in h.current; saved = file_in h.saved; store = st }
 
 -- a sound store, and handles that name files of it
 pub record Known (g : Geometry) (x : State) : Type 0 where
@@ -40,12 +41,6 @@ pub record Known (g : Geometry) (x : State) : Type 0 where
   pub sound : sound g x.store ≡ true
   pub current : (f : ℕ) → x.current ≡ some f → f < g.F
   pub saved : (f : ℕ) → x.saved ≡ some f → f < g.F
-
--- handles that name files of the table of sizes; no handle stands for file 0
-pub record Named (g : Geometry) (sizes : List ℕ) (p : Position) : Type 0 where
-  pub geometry : good_geometry g ≡ true
-  pub current : file_of (file_in p.current) < length sizes
-  pub saved : file_of (file_in p.saved) < length sizes
 
 -- where an operation is run: with a table of holders, one number for each block, and room for any result at place `at` of the reply
 pub record Runs (g : Geometry) (x : State) (counts reply : List ℕ) (at : ℕ) : Type 0 where
@@ -90,8 +85,7 @@ pub record Viewed (body : List ℕ) (at : ℕ) (before reply : List ℕ) (next :
 -- its result written at p's place: number, status and body; the handles after it are p's
 pub record Wrote (number status : ℕ) (body : List ℕ) (p : Position) (r : Answer) (before reply : List ℕ) : Type 0 where
   pub status_is : r.status ≡ status
-  pub current_is : r.after.current ≡ p.current
-  pub saved_is : r.after.saved ≡ p.saved
+  pub handles_are : r.after.handles ≡ p.handles
   pub written : Written ((u32 number ++ u32 status) ++ body) (8 + length body) p.at before reply r.after.at
 
 -- what an operation that shows leaves
@@ -102,7 +96,7 @@ pub record Showed (number : ℕ) (body : List ℕ) (p : Position) (r : Answer) (
 -- the event z, with its result written at place `at` of the reply and a true table of holders
 pub record Answered (z : Event) (r : Answer) (after : Store) (counts : List ℕ) (at : ℕ) (before reply : List ℕ) : Type 0 where
   pub status_is : r.status ≡ z.status
-  pub state_is : state_of r.after after ≡ z.after
+  pub state_is : state_of r.after.handles after ≡ z.after
   pub counted : TableTrue after.words counts
   pub written : Written (result_bytes z) (length (result_bytes z)) at before reply r.after.at
 
@@ -123,7 +117,7 @@ pub record Turned (z : Event) (fault : ℕ) (r r' : Progress) (after : Store) (c
 
 -- before the first
 abbrev pub started : ℕ → ℕ → Progress
-started read out = record { status = 0; count = 0; read = read; place = NOWHERE; at = record { current = Handle.Nothing; saved = Handle.Nothing; at = out } }
+started read out = record { status = 0; count = 0; read = read; place = NOWHERE; at = record { handles = record { current = None; saved = None }; at = out } }
 
 -- a compound of at most 12 operations from a sound store on: the reply has room for all results
 pub record RunsAll (g : Geometry) (st : Store) (counts : List ℕ) (ops : ℕ) (reply : List ℕ) (r : Progress) : Type 0 where

@@ -8,31 +8,18 @@ ghost use Rattle.compound.specs.Does.{edit_bytes};
 
 use crate::answer::{Answer, Position, without_body};
 use store::{Act, Edit};
-use wire::{put_copied, put_result, put_written};
-
-// How many bytes lie from `off` up to `end`.
-fn region_length(off: usize, end: usize) -> usize
-    ensures { result ≡ end - off }
-{
-    if end < off {
-        return 0;
-    }
-    end - off
-}
+use wire::{Status, put_copied, put_result, put_written};
 
 // The body of an edit that was done.
 fn put_edit(e: Edit, verifier: u64, reply: &mut [u8], at: usize) -> usize
     requires { (e.end - e.off < 2 ^ 32) × (at + 32 ≤ length reply.old) }
     ensures { Written (edit_bytes e (u64 verifier)) (length (edit_bytes e (u64 verifier))) at reply.old reply.new result }
 {
-    let n = region_length(e.off, e.end);
-    let act = e.act;
-    match act {
+    let n = e.end.saturating_sub(e.off);
+    match e.act {
         Act::Write => put_written(reply, at, n as u32, verifier),
         Act::Copy(_) => put_copied(reply, at, n as u64, verifier),
-        Act::Clone(_) => at,
-        Act::Allocate => at,
-        Act::Deallocate => at,
+        Act::Clone(_) | Act::Allocate | Act::Deallocate => at,
     }
 }
 
@@ -49,14 +36,15 @@ pub fn edited(
     ensures { Wrote number (cond done 0 NOSPC) (cond done (edit_bytes e (u64 verifier)) []) p result reply.old reply.new }
 {
     if !done {
-        return without_body(number, Answer::NOSPC, p, reply);
+        return without_body(number, Status::NOSPC, p, reply);
     }
-    let current = p.current;
-    let saved = p.saved;
-    let body = put_result(reply, p.at, number, Answer::OK);
+    let body = put_result(reply, p.at, number, Status::OK);
     let at = put_edit(e, verifier, reply, body);
     Answer {
-        status: Answer::OK,
-        after: Position { current, saved, at },
+        status: Status::OK,
+        after: Position {
+            handles: p.handles,
+            at,
+        },
     }
 }

@@ -2,14 +2,12 @@
 #![tactic(auto)]
 
 mod answer;
-mod clones;
+mod check;
 mod does;
 mod edits;
-mod errors;
 mod handles;
 mod pieces;
 mod reads;
-mod region;
 mod run;
 mod serving;
 mod stateid;

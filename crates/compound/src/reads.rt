@@ -6,57 +6,27 @@ ghost use Rattle.tables.specs.Lent.{geometry_of, tables};
 ghost use Rattle.rules.specs.Read.{granted};
 ghost use Rattle.rules.specs.Attributes.{file_attrs};
 ghost use Rattle.rules.specs.Operation.{attrs_reply, read_reply, read_plus_reply, seek_reply};
-ghost use Rattle.rules.specs.Run.{file_of};
 ghost use Rattle.wire.specs.Attrs.{asks};
-ghost use Rattle.compound.specs.Runner.{file_in, state_of, Shows, Seeks, AttrsKnown, Runs, Views, Viewed, Showed};
+ghost use Rattle.compound.specs.Runner.{state_of, Shows, Seeks, AttrsKnown, Runs, Views, Viewed, Showed};
 ghost use Rattle.compound.specs.Does.{view_bytes};
 
-use crate::answer::{Answer, Position, file_of};
+use crate::answer::{Answer, Position};
 use crate::pieces::{put_file_bytes, put_pieces};
 use tables::Geometry;
-use wire::{Asked, FileAttrs, Operation, ReadArgs, put_result};
+use wire::{Asked, FileAttrs, Operation, ReadArgs, Status, put_result};
 
 // The bytes granted of n asked for.
 fn grant(n: u32) -> u64
     ensures { result ≡ granted n }
 {
-    if n < Operation::MAX_READ {
-        return n as u64;
-    }
-    Operation::MAX_READ as u64
+    u64::from(n.min(Operation::MAX_READ))
 }
 
 // Whether n bytes from `off` on reach the size.
 fn reaches(size: u64, off: u64, n: u64) -> bool
     ensures { result ≡ leb size (off + n) }
 {
-    if size <= n {
-        return true;
-    }
-    size - n <= off
-}
-
-// How many of the n bytes from `off` on lie below the size.
-fn below(size: u64, off: u64, n: u64) -> u64
-    ensures { result ≡ min n (size - off) }
-{
-    if size <= off {
-        return 0;
-    }
-    if size - off < n {
-        return size - off;
-    }
-    n
-}
-
-// Where n bytes from `off` on end, cut at the size.
-fn read_end(size: u64, off: u64, n: u64) -> u64
-    ensures { result ≡ min (off + n) size }
-{
-    if reaches(size, off, n) {
-        return size;
-    }
-    off + n
+    size.saturating_sub(n) <= off
 }
 
 // READ's body: eof, data.
@@ -77,7 +47,7 @@ fn put_read(
 {
     let size = sizes[f];
     let data = xdr::put_bool(reply, at, reaches(size, off, grant(n)));
-    let m = below(size, off, grant(n));
+    let m = grant(n).min(size.saturating_sub(off));
     if m == 0 {
         return xdr::put_u32(reply, data, 0);
     }
@@ -102,7 +72,7 @@ fn put_read_plus(
 {
     let size = sizes[f];
     let number = xdr::put_bool(reply, at, reaches(size, off, grant(n)));
-    let end = read_end(size, off, grant(n)) as usize;
+    let end = off.saturating_add(grant(n)).min(size) as usize;
     let p = put_pieces(g, words, mem, f, off as usize, end, reply, number + 4);
     xdr::put_u32(reply, number, p.count);
     p.next
@@ -198,7 +168,7 @@ fn put_view(
     }
 }
 
-// The result of an operation that shows.
+// The result of an operation that shows file f.
 pub fn show(
     g: Geometry,
     sizes: &[u64],
@@ -206,30 +176,23 @@ pub fn show(
     mem: &[u8],
     counts: &mut [u32],
     number: u32,
+    f: usize,
     v: View,
     p: Position,
     reply: &mut [u8],
 ) -> Answer
-    requires { Runs (geometry_of g) (state_of p (tables sizes.now words.now mem.now)) counts.old reply.old p.at }
-    ensures { Showed number (view_bytes (geometry_of g) (tables sizes.now words.now mem.now) (file_of (file_in p.current)) v) p
+    requires runs { Runs (geometry_of g) (state_of p.handles (tables sizes.now words.now mem.now)) counts.old reply.old p.at }
+    requires file { f < g.files }
+    ensures { Showed number (view_bytes (geometry_of g) (tables sizes.now words.now mem.now) f v) p
         result reply.old reply.new counts.old counts.new }
 {
-    let current = p.current;
-    let saved = p.saved;
-    let body = put_result(reply, p.at, number, Answer::OK);
-    let at = put_view(
-        g,
-        sizes,
-        words,
-        mem,
-        counts,
-        file_of(current),
-        v,
-        reply,
-        body,
-    );
+    let body = put_result(reply, p.at, number, Status::OK);
+    let at = put_view(g, sizes, words, mem, counts, f, v, reply, body);
     Answer {
-        status: Answer::OK,
-        after: Position { current, saved, at },
+        status: Status::OK,
+        after: Position {
+            handles: p.handles,
+            at,
+        },
     }
 }

@@ -10,13 +10,14 @@ ghost use Rattle.rules.specs.Calls.{fresh};
 ghost use Rattle.wire.specs.Decoded.{meaning};
 ghost use Rattle.compound.specs.Runner.{state_of, config_of, started, Runs, Answered, event_at, Turned, RunsAll, RanAll};
 
-use crate::answer::{Answer, Handle, Position, without_body};
-use crate::does::{Does, does_of};
+use crate::answer::{Answer, Position, without_body};
+use crate::check::Context;
+use crate::does::Does;
 use crate::edits::edited;
-use crate::errors::error;
+use crate::handles::Handles;
 use crate::reads::show;
 use tables::Geometry;
-use wire::{Item, Operation, item};
+use wire::{Item, Operation, Status, item};
 use xdr::Cursor;
 
 // What the serving call is given beside the store, the request and the reply buffer.
@@ -43,13 +44,15 @@ impl Progress {
         ensures { result ≡ started read out }
     {
         Progress {
-            status: Answer::OK,
+            status: Status::OK,
             count: 0,
             read,
             place: Item::NOWHERE,
             at: Position {
-                current: Handle::Nothing,
-                saved: Handle::Nothing,
+                handles: Handles {
+                    current: None,
+                    saved: None,
+                },
                 at: out,
             },
         }
@@ -68,24 +71,31 @@ fn operation(
     p: Position,
     reply: &mut [u8],
 ) -> Answer
-    requires { Runs (geometry_of c.geometry) (state_of p (tables sizes.old words.old mem.old)) counts.old reply.old p.at }
+    requires { Runs (geometry_of c.geometry) (state_of p.handles (tables sizes.old words.old mem.old)) counts.old reply.old p.at }
     ensures { (next : ℕ) → Answered
-        (perform (config_of c) (state_of p (tables sizes.old words.old mem.old)) (meaning s.now o) next)
+        (perform (config_of c) (state_of p.handles (tables sizes.old words.old mem.old)) (meaning s.now o) next)
         result (tables sizes.new words.new mem.new) counts.new p.at reply.old reply.new }
 {
     let g = c.geometry;
     let k = o.number();
-    let e = error(g, sizes, s, o, p);
-    if e != Answer::OK {
-        return without_body(k, e, p, reply);
-    }
-    match does_of(sizes, s, o, p) {
-        Does::Sets(current, saved) => {
-            let at = p.at;
-            without_body(k, Answer::OK, Position { current, saved, at }, reply)
-        }
-        Does::Shows(v) => show(g, sizes, words, mem, counts, k, v, p, reply),
-        Does::Edits(e, d) => {
+    let context = Context {
+        geometry: g,
+        sizes,
+        words,
+        memory: mem,
+        request: s,
+        handles: p.handles,
+    };
+    match context.check(o) {
+        Err(status) => without_body(k, status.number(), p, reply),
+        Ok(Does::Sets(handles)) => without_body(
+            k,
+            Status::OK,
+            Position { handles, at: p.at },
+            reply,
+        ),
+        Ok(Does::Shows(f, v)) => show(g, sizes, words, mem, counts, k, f, v, p, reply),
+        Ok(Does::Edits(e, d)) => {
             let done = store::apply(g, sizes, words, mem, counts, e, xdr::part(s, d));
             edited(done, k, e, c.verifier, p, reply)
         }
@@ -104,8 +114,8 @@ fn step(
     r: Progress,
     reply: &mut [u8],
 ) -> Progress
-    requires { Runs (geometry_of c.geometry) (state_of r.at (tables sizes.old words.old mem.old)) counts.old reply.old r.at.at × (r.count < 12) }
-    ensures { Turned (perform (config_of c) (state_of r.at (tables sizes.old words.old mem.old)) (meaning s.now o) r.read) NOWHERE
+    requires { Runs (geometry_of c.geometry) (state_of r.at.handles (tables sizes.old words.old mem.old)) counts.old reply.old r.at.at × (r.count < 12) }
+    ensures { Turned (perform (config_of c) (state_of r.at.handles (tables sizes.old words.old mem.old)) (meaning s.now o) r.read) NOWHERE
         r result (tables sizes.new words.new mem.new) counts.new reply.old reply.new }
 {
     let p = r.at;
@@ -124,7 +134,7 @@ fn step(
 fn stop(number: u32, status: u32, place: usize, r: Progress, reply: &mut [u8]) -> Progress
     requires { (r.at.at + 8 ≤ length reply.old) × (r.count < 12) }
     ensures { (st : Store) (counts : List ℕ) → TableTrue st.words counts
-        → Turned (failed (bad number status) (state_of r.at st) status) place
+        → Turned (failed (bad number status) (state_of r.at.handles st) status) place
         r result st counts reply.old reply.new }
 {
     let p = r.at;
@@ -150,8 +160,8 @@ fn turn(
     r: Progress,
     reply: &mut [u8],
 ) -> Progress
-    requires { Runs (geometry_of c.geometry) (state_of r.at (tables sizes.old words.old mem.old)) counts.old reply.old r.at.at × (r.count < 12) }
-    ensures { Turned (event_at (config_of c) (state_of r.at (tables sizes.old words.old mem.old)) s.now r.read) (fault_at s.now r.read)
+    requires { Runs (geometry_of c.geometry) (state_of r.at.handles (tables sizes.old words.old mem.old)) counts.old reply.old r.at.at × (r.count < 12) }
+    ensures { Turned (event_at (config_of c) (state_of r.at.handles (tables sizes.old words.old mem.old)) s.now r.read) (fault_at s.now r.read)
         r result (tables sizes.new words.new mem.new) counts.new reply.old reply.new }
 {
     match item(s, Cursor::new(r.read)) {
@@ -191,7 +201,7 @@ pub fn run(
     let mut r = start;
     while r.count < ops {
         r = turn(c, sizes, words, mem, counts, s, r, reply);
-        if r.status != Answer::OK {
+        if r.status != Status::OK {
             return r;
         }
     }

@@ -1,5 +1,5 @@
 // The call that serves a compound: the refusals in their order, then the operations, then the reply's head.
-ghost use Rattle.std.specs.Prelude.{◌≡◌, not, cond, ltb, eqb, [], ◌∷◌, ◌+◌, ◌≤◌, length};
+ghost use Rattle.std.specs.Prelude.{◌≡◌, not, cond, ltb, eqb, [], ◌∷◌, ◌+◌, ◌<◌, ◌≤◌, length, IfOk, IfErr};
 ghost use Rattle.xdr.specs.Bytes.{part_of, Written};
 ghost use Rattle.xdr.specs.Encode.{u64, opaque_size};
 ghost use Rattle.tables.specs.Lent.{geometry_of, tables};
@@ -11,13 +11,15 @@ ghost use Rattle.rules.specs.Calls.{reply_head, Contract};
 ghost use Rattle.rules.specs.Run.{config};
 ghost use Rattle.tables.specs.Tables.{Shaped};
 ghost use Rattle.tables.specs.Survey.{TableFits, TableReady};
+ghost use Rattle.wire.specs.Status.{number_of};
 ghost use Rattle.wire.specs.Decoded.{header_of};
+ghost use Rattle.compound.specs.Does.{first_of};
 ghost use Rattle.compound.specs.Runner.{config_of, CallFits, Admitted, Serves, ServedRight, refused_with, call, outcome};
 
-use crate::answer::Answer;
+use crate::check::ensure;
 use crate::run::{Config, Progress, run};
 use tables::{Geometry, Surveyed};
-use wire::{Header, HeaderRead, Item, Operation, header};
+use wire::{Header, HeaderRead, Item, Operation, Status, header};
 use xdr::{Cursor, Long};
 
 // A refusal with zero counts, or 0 with the bytes read and written; and the place where the request went wrong.
@@ -68,17 +70,14 @@ impl Served {
     }
 }
 
-// The status of a compound that is refused as a whole, else 0.
-fn header_status(minor: u32, ops: u32) -> u32
-    ensures { result ≡ first ((not (eqb minor 2), MINOR_VERS_MISMATCH) ∷ (ltb 12 ops, TOO_MANY_OPS) ∷ []) }
+// The error of a compound that is refused as a whole.
+fn check_header(minor: u32, ops: u32) -> Result<(), Status>
+    ensures error { first_of result ≡ first ((not (eqb minor 2), MINOR_VERS_MISMATCH) ∷ (ltb 12 ops, TOO_MANY_OPS) ∷ []) }
+    ensures failed { IfErr result (λ e. 0 < number_of e) }
+    ensures few { IfOk result (λ u. ops ≤ 12) }
 {
-    if minor != Served::MINOR {
-        return Answer::MINOR_VERS_MISMATCH;
-    }
-    if Operation::MAX_OPS < ops {
-        return Answer::TOO_MANY_OPS;
-    }
-    Answer::OK
+    ensure(minor == Served::MINOR, Status::MinorVersionMismatch)?;
+    ensure(ops <= Operation::MAX_OPS, Status::TooManyOps)
 }
 
 // The head of the reply: status, tag, number of results.
@@ -110,25 +109,28 @@ fn serve_operations(
 {
     let d = h.tag;
     let tag = xdr::part(s, d);
-    let e = header_status(h.minor, h.ops);
-    if e != Answer::OK {
-        let written = put_head(reply, e, tag, 0);
-        return Served {
-            number: 0,
-            read: h.next.at,
-            written,
-            place: Item::NOWHERE,
-        };
-    }
-    let out = 12 + (tag.len() + xdr::padding(tag.len()));
-    let start = Progress::start(h.next.at, out);
-    let r = run(c, sizes, words, mem, counts, s, h.ops, start, reply);
-    put_head(reply, r.status, tag, r.count);
-    Served {
-        number: 0,
-        read: r.read,
-        written: r.at.at,
-        place: r.place,
+    match check_header(h.minor, h.ops) {
+        Err(status) => {
+            let written = put_head(reply, status.number(), tag, 0);
+            Served {
+                number: 0,
+                read: h.next.at,
+                written,
+                place: Item::NOWHERE,
+            }
+        }
+        Ok(()) => {
+            let out = 12 + (tag.len() + xdr::padding(tag.len()));
+            let start = Progress::start(h.next.at, out);
+            let r = run(c, sizes, words, mem, counts, s, h.ops, start, reply);
+            put_head(reply, r.status, tag, r.count);
+            Served {
+                number: 0,
+                read: r.read,
+                written: r.at.at,
+                place: r.place,
+            }
+        }
     }
 }
 
@@ -155,26 +157,9 @@ fn serve_counted(
     }
 }
 
-// The same in a table of any length that has a number for each block.
-fn serve_in(
-    c: Config,
-    sizes: &mut [u64],
-    words: &mut [u32],
-    mem: &mut [u8],
-    counts: &mut [u32],
-    s: &[u8],
-    reply: &mut [u8],
-) -> Served
-    requires { TableFits (geometry_of c.geometry) (tables sizes.old words.old mem.old) counts.old × CallFits s.now reply.old }
-    ensures { Contract (call (config_of c) s.now reply.old) (tables sizes.old words.old mem.old)
-        (outcome result reply.new (tables sizes.new words.new mem.new)) }
-{
-    let n = c.geometry.blocks;
-    serve_counted(c, sizes, words, mem, &mut counts[..n], s, reply)
-}
-
 // The same with a table of its own, which it only lends. A small table is cleared faster, and takes less of the stack.
-fn serve_small(
+#[inline(never)]
+fn serve_with<const N: usize>(
     c: Config,
     sizes: &mut [u64],
     words: &mut [u32],
@@ -182,44 +167,14 @@ fn serve_small(
     s: &[u8],
     reply: &mut [u8],
 ) -> Served
-    requires { Admitted (geometry_of c.geometry) (tables sizes.old words.old mem.old) s.now reply.old 256 }
+    requires admitted { Admitted (geometry_of c.geometry) (tables sizes.old words.old mem.old) s.now reply.old N }
+    requires small { N ≤ 65536 }
     ensures { Contract (call (config_of c) s.now reply.old) (tables sizes.old words.old mem.old)
         (outcome result reply.new (tables sizes.new words.new mem.new)) }
 {
-    let mut counts = [0u32; Geometry::SMALL_POOL];
-    serve_in(c, sizes, words, mem, &mut counts, s, reply)
-}
-
-fn serve_middle(
-    c: Config,
-    sizes: &mut [u64],
-    words: &mut [u32],
-    mem: &mut [u8],
-    s: &[u8],
-    reply: &mut [u8],
-) -> Served
-    requires { Admitted (geometry_of c.geometry) (tables sizes.old words.old mem.old) s.now reply.old 4096 }
-    ensures { Contract (call (config_of c) s.now reply.old) (tables sizes.old words.old mem.old)
-        (outcome result reply.new (tables sizes.new words.new mem.new)) }
-{
-    let mut counts = [0u32; Geometry::MIDDLE_POOL];
-    serve_in(c, sizes, words, mem, &mut counts, s, reply)
-}
-
-fn serve_large(
-    c: Config,
-    sizes: &mut [u64],
-    words: &mut [u32],
-    mem: &mut [u8],
-    s: &[u8],
-    reply: &mut [u8],
-) -> Served
-    requires { Admitted (geometry_of c.geometry) (tables sizes.old words.old mem.old) s.now reply.old 65536 }
-    ensures { Contract (call (config_of c) s.now reply.old) (tables sizes.old words.old mem.old)
-        (outcome result reply.new (tables sizes.new words.new mem.new)) }
-{
-    let mut counts = [0u32; Geometry::MAX_BLOCKS];
-    serve_in(c, sizes, words, mem, &mut counts, s, reply)
+    let mut counts = [0u32; N];
+    let counts = &mut counts[..c.geometry.blocks];
+    serve_counted(c, sizes, words, mem, counts, s, reply)
 }
 
 // A refusal that comes behind that of a store which is not sound.
@@ -277,11 +232,9 @@ pub fn serve(
         geometry: g,
         verifier: verifier(v),
     };
-    if g.blocks <= Geometry::SMALL_POOL {
-        return serve_small(c, sizes, words, mem, s, reply);
+    match g.blocks {
+        0..=256 => serve_with::<256>(c, sizes, words, mem, s, reply),
+        257..=4096 => serve_with::<4096>(c, sizes, words, mem, s, reply),
+        _ => serve_with::<65536>(c, sizes, words, mem, s, reply),
     }
-    if g.blocks <= Geometry::MIDDLE_POOL {
-        return serve_middle(c, sizes, words, mem, s, reply);
-    }
-    serve_large(c, sizes, words, mem, s, reply)
 }

@@ -1,12 +1,11 @@
 -- An edit applied: what its parts ask, and its ways out.
 use Prim.Native.Nat.{ℕ, ◌*◌, ◌≤◌, ◌<◌, max}
-use mathlib.Core.Path.{◌≡◌, sym, ap, ◌∙◌}
-use mathlib.Core.Bool.{Bool, true, false, not}
-use mathlib.Core.List.{List, ◌++◌}
+use mathlib.Core.Path.{◌≡◌, sym, ◌∙◌}
+use mathlib.Core.Bool.{Bool, true, false}
+use mathlib.Core.List.{List}
 use native.Mathlib.Omega.{arith}
-use borrow.Author.Tests.{not-false}
-use lib.ListN.{length, set, take, drop, length-append}
-use lib.Seq.{length-take-le, take_at}
+use lib.ListN.{length, set, take}
+use lib.Seq.{length-take-le}
 use Rattle.rules.specs.Store.{Geometry, good_geometry, Store, size_of, fits_pool}
 use Rattle.rules.specs.Edit.{slot_count, plan, edited, edit_bytes}
 use Rattle.rules.proofs.EditForms.{edited-none, edited-some}
@@ -21,9 +20,9 @@ use Rattle.store.proofs.EditEnds.{edit-none, words-fit, sound-store, plan-refuse
 use Rattle.store.proofs.KindLaws.{applies_plannable}
 use Rattle.store.proofs.FillLaws.{fills_known}
 
-module _ {g : Geometry} {st : Store} {cs : List ℕ} {e : CodeEdit.Edit} {d : List ℕ} (a : Applies g st cs e d) where
-  pub apply_none : e.end ≤ e.off → EditPromise g st (edited g st (edit_from e d)) true st cs
-  apply_none h = edit-none a.known _ (edited-none g st (edit_from e d) h)
+module _ {g : Geometry} {st : Store} {cs : List ℕ} {e : CodeEdit.Edit} (a : Applies g st cs e) where
+  pub apply_none : e.end ≤ e.off → EditPromise g st (edited g st (edit_from e)) true st cs
+  apply_none h = edit-none a.known _ (edited-none g st (edit_from e) h)
 
   pub file-inside : e.file < length st.sizes
   file-inside = omega (arith, (sound-store a.known).files, a.known.file)
@@ -48,37 +47,26 @@ module _ {g : Geometry} {st : Store} {cs : List ℕ} {e : CodeEdit.Edit} {d : Li
         pub saved_plannable : Plannable g e st.words cs (take n saved) × (fits_pool (length cs) st.words ≡ true)
         saved_plannable = (applies_plannable a some (saved-long ∙ is), words-fit a.known)
 
-        -- they come back as `old`
-        module _ (old : List ℕ) (kept : length old ≡ length (take n saved)) where
-          pub old-room : n ≤ length (old ++ drop n saved)
-          old-room = rw (length-append old (drop n saved)) (omega (arith, kept, saved-long))
-
-          pub old-lent : n ≡ length (take n (old ++ drop n saved))
-          old-lent = sym (ap length (take_at old (drop n saved) n (kept ∙ saved-long)) ∙ kept ∙ saved-long)
-
-          pub old-back : take n (old ++ drop n saved) ≡ old
-          old-back = take_at old (drop n saved) n (kept ∙ saved-long)
-
     -- after the plan
     module _ {done : Bool} {after cs' old : List ℕ} (same : length cs' ≡ length cs) {size : ℕ} (size_is : size ≡ size_of st e.file)
         (p : EditPlanned g e size st.words done after cs' old) where
-      edit-is : edited g st (edit_from e d)
-          ≡ record { sizes = set st.sizes e.file (max (size_of st e.file) e.end); words = plan g st (edit_from e d); mem = edit_bytes g st (edit_from e d) }
-      edit-is = edited-some g st (edit_from e d) some
+      edit-is : edited g st (edit_from e)
+          ≡ record { sizes = set st.sizes e.file (max (size_of st e.file) e.end); words = plan g st (edit_from e); mem = edit_bytes g st (edit_from e) }
+      edit-is = edited-some g st (edit_from e) some
 
-      pub apply_refused : not done ≡ true → EditPromise g st (edited g st (edit_from e d)) false (record { sizes = st.sizes; words = after; mem = st.mem }) cs'
-      apply_refused = plan-refused a.known edit-is same (p.planned st.sizes st.mem d (sym size_is))
+      pub apply_refused : done ≡ false → EditPromise g st (edited g st (edit_from e)) false (record { sizes = st.sizes; words = after; mem = st.mem }) cs'
+      apply_refused = plan-refused a.known edit-is same (p.planned st.sizes st.mem (sym size_is))
 
-      module _ (e₁ : not done ≡ false) where
-        after_is : after ≡ plan g st (edit_from e d)
+      module _ (e₁ : done ≡ true) where
+        after_is : after ≡ plan g st (edit_from e)
         after_is =
-            let q = p.planned st.sizes st.mem d (sym size_is) in
-            rw (← q.answer, not-false done e₁) at q.words_are
+            let q = p.planned st.sizes st.mem (sym size_is) in
+            rw (← q.answer, e₁) at q.words_are
 
-        pub apply_fills : Fills g st e d size old after st.mem
+        pub apply_fills : Fills g st e size old after st.mem
         apply_fills =
-            fills_known a some size_is p.saved after_is (rw (sym (same ∙ a.known.blocks)) (p.planned st.sizes st.mem d (sym size_is)).counted.pool)
+            fills_known a some size_is p.saved after_is (rw (sym (same ∙ a.known.blocks)) (p.planned st.sizes st.mem (sym size_is)).counted.pool)
 
-        pub apply_done : {sizes' mem' : List ℕ} → sizes' ≡ set st.sizes e.file (max (size_of st e.file) e.end) → mem' ≡ edit_bytes g st (edit_from e d)
-            → EditPromise g st (edited g st (edit_from e d)) true (record { sizes = sizes'; words = after; mem = mem' }) cs'
-        apply_done = plan-done a.known edit-is same (p.planned st.sizes st.mem d (sym size_is)) e₁
+        pub apply_done : {sizes' mem' : List ℕ} → sizes' ≡ set st.sizes e.file (max (size_of st e.file) e.end) → mem' ≡ edit_bytes g st (edit_from e)
+            → EditPromise g st (edited g st (edit_from e)) true (record { sizes = sizes'; words = after; mem = mem' }) cs'
+        apply_done = plan-done a.known edit-is same (p.planned st.sizes st.mem (sym size_is)) e₁

@@ -1,12 +1,11 @@
 -- An edit's two ways out, and the numbers that the code computes.
-use Prim.Native.Nat.{ℕ, ◌+◌, ◌*◌, ◌≤◌, ◌<◌, max}
+use Prim.Native.Nat.{ℕ, ◌+◌, ◌*◌, ◌≤◌, ◌<◌}
 use mathlib.Core.Path.{◌≡◌, refl, sym, ◌∙◌}
-use mathlib.Core.Bool.{Bool, true, false, not}
+use mathlib.Core.Bool.{Bool, true, false}
 use mathlib.Core.List.{List}
 use native.Mathlib.Omega.{arith}
-use borrow.Author.Tests.{le-leb, not-true, not-false}
-use lib.ListN.{length, get_or, set}
-use lib.Seq.{set-get_or}
+use borrow.Author.Tests.{le-leb}
+use lib.ListN.{length}
 use Rattle.rules.specs.Lists.{ceil_div}
 use Rattle.rules.specs.Store.{Geometry, good_geometry, Store, need, fits_pool}
 use Rattle.rules.specs.Edit.{first_slot, slot_count}
@@ -26,19 +25,6 @@ edit-refused g st planned after cs e s w m k = record { answer = sym e; sizes_ar
 pub edit_done_lem : (g : Geometry) (st planned after : Store) (cs : List ℕ) → fits_pool g.N planned.words ≡ true
     → after.sizes ≡ planned.sizes → after.words ≡ planned.words → after.mem ≡ planned.mem → TableTrue after.words cs → EditPromise g st planned true after cs
 edit_done_lem g st planned after cs e s w m k = record { answer = sym e; sizes_are = rw e s; words_are = rw e w; mem_is = rw e m; counted = k }
-
--- ---- the size of a file after an edit up to end
-
-module _ (sizes : List ℕ) (f end : ℕ) where
-  pub size-kept : end ≤ get_or sizes f 0 → sizes ≡ set sizes f (max (get_or sizes f 0) end)
-  size-kept h =
-      let e : max (get_or sizes f 0) end ≡ get_or sizes f 0 = omega arith in
-      rw e (sym (set-get_or sizes f 0))
-
-  pub size_grown : get_or sizes f 0 < end → set sizes f end ≡ set sizes f (max (get_or sizes f 0) end)
-  size_grown h =
-      let e : max (get_or sizes f 0) end ≡ end = omega arith in
-      rw e
 
 -- ---- what is known where an edit is called
 
@@ -62,16 +48,14 @@ module _ {g : Geometry} {st : Store} {cs : List ℕ} {f : ℕ} (k : EditKnown g 
     judged-is : fits_pool g.N edit.words ≡ done
     judged-is = rw (is, ← k.blocks, ← same) (sym p.answer)
 
-    pub plan-refused : not done ≡ true → EditPromise g st edit false (record { sizes = st.sizes; words = after; mem = st.mem }) cs'
-    plan-refused e =
-        let no : done ≡ false = not-true done e in
-        edit-refused g st edit _ cs' (judged-is ∙ no) refl (rw (← p.answer, no) at p.words_are) refl p.counted
+    pub plan-refused : done ≡ false → EditPromise g st edit false (record { sizes = st.sizes; words = after; mem = st.mem }) cs'
+    plan-refused unfit =
+        edit-refused g st edit _ cs' (judged-is ∙ unfit) refl (rw (← p.answer, unfit) at p.words_are) refl p.counted
 
-    pub plan-done : not done ≡ false → {sizes' mem' : List ℕ} → sizes' ≡ sizes → mem' ≡ mem
+    pub plan-done : done ≡ true → {sizes' mem' : List ℕ} → sizes' ≡ sizes → mem' ≡ mem
         → EditPromise g st edit true (record { sizes = sizes'; words = after; mem = mem' }) cs'
-    plan-done e s m =
-        let yes : done ≡ true = not-false done e in
-        edit_done_lem g st edit _ cs' (judged-is ∙ yes) (rw is s) (rw is (rw (← p.answer, yes) at p.words_are)) (rw is m) p.counted
+    plan-done fits s m =
+        edit_done_lem g st edit _ cs' (judged-is ∙ fits) (rw is s) (rw is (rw (← p.answer, fits) at p.words_are)) (rw is m) p.counted
 
 -- numbers that the code computes
 pub record RegionRoom (g : Geometry) (off end : ℕ) : Type 0 where

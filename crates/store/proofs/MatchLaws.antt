@@ -18,7 +18,7 @@ use Rattle.store.specs.declared.edit.Source.{Source}
 use Rattle.store.specs.declared.edit.Edit as CodeEdit
 use Rattle.store.specs.Readable.{Placed, hole_in}
 use Rattle.store.specs.Planner.{Others, CopySlot, copy_from, MatchedIs, CopyKindIs}
-use Rattle.store.proofs.RangeLaws.{slot-most}
+use Rattle.store.proofs.RangeLaws.{slot_most}
 
 module _ {g : Geometry} {e : CodeEdit.Edit} {s : Source} {ws : List ℕ} {k : ℕ} (h : CopySlot g e s ws k) where
   pub copy-good : Good g
@@ -36,7 +36,7 @@ module _ {g : Geometry} {e : CodeEdit.Edit} {s : Source} {ws : List ℕ} {k : �
 
   -- numbers that the code computes
   pub copy-most : (s.off + (e.end - e.off) ≤ 4194304) × (k * g.B + g.B ≤ 4194304)
-  copy-most = (omega (arith, h.source.fits, file-most g copy-good), slot-most g k h.slot.edit.geometry copy-below)
+  copy-most = (omega (arith, h.source.fits, file-most g copy-good), slot_most g k h.slot.edit.geometry copy-below)
 
   -- a place of the source
   pub source-placed : (i : ℕ) → i < s.off + (e.end - e.off) → Placed g ws s.file (i + 1)

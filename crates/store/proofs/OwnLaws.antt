@@ -20,7 +20,8 @@ use Rattle.rules.proofs.NeedLaws.{lowest_free-least}
 use Rattle.rules.proofs.PlanLaws.{one-holder}
 use Rattle.tables.specs.Tally.{takes_by, first_zero}
 use Rattle.tables.specs.Tables.{TableTrue, Stored}
-use Rattle.store.specs.declared.edit.Search.{Search}
+use Rattle.std.specs.Prelude.{Ok, Err}
+use Rattle.store.specs.declared.edit.NoSpace.{NoSpace}
 use Rattle.store.specs.Planner.{SlotChanged}
 use Rattle.store.proofs.KindLaws.{changed-done}
 use Rattle.tables.proofs.PoolLaws.{first_below, first-from, takes_same, tallied_free, tallied_full}
@@ -73,12 +74,12 @@ module _ (ws cs : List ℕ) (known : TableTrue ws cs) where
     takes_is : takes_by cs (get_or ws i 0) ≡ hole_or_shared ws (get_or ws i 0)
     takes_is = takes_same ws cs known.table known.pool (get_or ws i 0) (known.pool i)
 
-    pub slot_kept : takes_by cs (get_or ws i 0) ≡ false → {from : ℕ} → from ≤ first_zero cs → SlotChanged owns ws cs i (Search.From from) ws cs
+    pub slot_kept : takes_by cs (get_or ws i 0) ≡ false → {from : ℕ} → from ≤ first_zero cs → SlotChanged owns ws cs i (Ok from) ws cs
     unfolding owned become
     slot_kept e low = changed-done (rw (sym takes_is ∙ e) (sym (set-get_or ws i 0))) known low
 
     module _ (e : takes_by cs (get_or ws i 0) ≡ true) where
-      pub slot-stopped : length cs ≤ first_zero cs → SlotChanged owns ws cs i Search.Full ws cs
+      pub slot-stopped : length cs ≤ first_zero cs → {no : NoSpace} → SlotChanged owns ws cs i (Err no) ws cs
       slot-stopped h = record {
         words_are = refl;
         counted = known;
@@ -112,7 +113,7 @@ module _ (ws cs : List ℕ) (known : TableTrue ws cs) where
                 let q : c ≡ first_zero cs = omega (arith, d) in
                 rw q taken-held
 
-        pub slot-taken : SlotChanged owns ws cs i (Search.From (first_zero cs + 1)) after cs'
+        pub slot-taken : SlotChanged owns ws cs i (Ok (first_zero cs + 1)) after cs'
         unfolding owned become
         slot-taken =
             changed-done (s.words_are ∙ rw (sym takes_is ∙ e, tallied_free ws cs known.table known.pool h)) s.counted low-behind

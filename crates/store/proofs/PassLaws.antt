@@ -1,12 +1,12 @@
 -- A pass over the slots of an edit: it changes no other slot, and one that stops for want of a block does not fit the pool.
 use Prim.Native.Nat.{ℕ, zero, suc, ◌+◌, ◌*◌, ◌≤◌, ◌<◌, ◌-◌}
 use mathlib.Core.Path.{◌≡◌, refl, sym, ap, ◌∙◌}
-use mathlib.Core.Bool.{Bool, true, false, cond, not, true≢false}
+use mathlib.Core.Bool.{Bool, true, false, cond, true≢false}
 use mathlib.Core.List.{List}
 use mathlib.Core.Logic.{◌≢◌, ◌⊎◌, inl, inr}
 use native.Mathlib.Nat.{le_refl, le_trans, add-zero}
 use native.Mathlib.Omega.{arith}
-use borrow.Author.Tests.{lt-leb, not-true, not-false}
+use borrow.Author.Tests.{lt-leb}
 use lib.ListN.{length, get_or, take, drop}
 use lib.Seq.{get_or-take, get_or-drop}
 use Rattle.xdr.specs.Bytes.{splice}
@@ -19,10 +19,12 @@ use Rattle.rules.proofs.SoundStore.{apart}
 use Rattle.tables.specs.Tables.{TableTrue}
 use Rattle.tables.specs.Tally.{first_zero}
 use Rattle.store.specs.declared.edit.Edit as CodeEdit
-use Rattle.store.specs.declared.edit.Search.{Search}
+use Rattle.std.specs.Prelude.{Result, Ok, Err, is_ok, IsErr}
+use Rattle.store.specs.declared.edit.NoSpace.{NoSpace}
+use Rattle.store.specs.declared.edit.Pass.{Pass}
 use Rattle.store.specs.Edits.{edit_from}
 use Rattle.store.specs.Plan.{Planned, Outside, Undoable, Undone, Settleable}
-use Rattle.store.specs.Planner.{NoBlock, Others, SlotSeen, KindIs, goes_on, SlotChanged, in_pass, only, Plannable, index_of, words_of, Seen, Passed, EditPlanned}
+use Rattle.store.specs.Planner.{NoBlock, Others, SlotSeen, KindIs, SlotChanged, in_pass, only, Plannable, index_of, words_of, Seen, Passed, EditPlanned}
 use Rattle.store.proofs.KindLaws.{edit-room, edit-inside, keeps, keeps-used, stop-used}
 use Rattle.store.proofs.SettleLaws.{outside_refl, outside_trans, saved_is, saved-pool, saved-back, planned_undone, planned_settled}
 
@@ -78,23 +80,23 @@ only-owns p c h = go (p c) refl h
     go false e q = let z : ◌≡◌ {A = ℕ} 0 1 = cc in absurd (omega arith)
 
 -- where one slot takes a block, every slot of that pass is of such a kind
-owns-keeps : (first : Bool) (g : Geometry) (st : Store) (e : Edit) (k : ℕ) → kinds_in (in_pass first) g st e k ≡ owns
-    → (j : ℕ) → keeps (kinds_in (in_pass first) g st e j) ≡ true
+owns-keeps : (which : Pass) (g : Geometry) (st : Store) (e : Edit) (k : ℕ) → kinds_in (in_pass which) g st e k ≡ owns
+    → (j : ℕ) → keeps (kinds_in (in_pass which) g st e j) ≡ true
 unfolding kind_of
-owns-keeps true g st e k h j = absurd (true≢false (sym (only-owns (in_pass true) (kind_of g st e k) h)))
-owns-keeps false g st e k h j = go e.act h
+owns-keeps Pass.Holes g st e k h j = absurd (true≢false (sym (only-owns (in_pass Pass.Holes) (kind_of g st e k) h)))
+owns-keeps Pass.Others g st e k h j = go e.act h
   where
-    copied : (a : Bool) → keeps (only (in_pass false) (cond a cleared owns)) ≡ true
+    copied : (a : Bool) → keeps (only (in_pass Pass.Others) (cond a cleared owns)) ≡ true
     copied true = refl
     copied false = refl
 
-    cut : (a b : Bool) → keeps (only (in_pass false) (cond a given (cond b stays owns))) ≡ true
+    cut : (a b : Bool) → keeps (only (in_pass Pass.Others) (cond a given (cond b stays owns))) ≡ true
     cut true b = refl
     cut false true = refl
     cut false false = refl
 
-    go : (a : Act) → kinds_in (in_pass false) g st (record { file = e.file; off = e.off; end = e.end; act = a }) k ≡ owns
-        → keeps (kinds_in (in_pass false) g st (record { file = e.file; off = e.off; end = e.end; act = a }) j) ≡ true
+    go : (a : Act) → kinds_in (in_pass Pass.Others) g st (record { file = e.file; off = e.off; end = e.end; act = a }) k ≡ owns
+        → keeps (kinds_in (in_pass Pass.Others) g st (record { file = e.file; off = e.off; end = e.end; act = a }) j) ≡ true
     go (write new) q = refl
     go (copy s soff) q = copied (clears g st (copying e.file e.off e.end s soff) s soff j)
     go (clone s soff) q = let z : ◌≡◌ {A = ℕ} 0 1 = cc in absurd (omega arith)
@@ -131,18 +133,18 @@ module _ {g : Geometry} {e : CodeEdit.Edit} {size : ℕ} {old ws₀ : List ℕ} 
     others = others-on e fit o s.others;
   }
 
-pub record Passing (g : Geometry) (e : CodeEdit.Edit) (size : ℕ) (first : Bool) (old ws₀ cs₀ ws cs : List ℕ) (j from : ℕ) : Type 0 where
+pub record Passing (g : Geometry) (e : CodeEdit.Edit) (size : ℕ) (which : Pass) (old ws₀ cs₀ ws cs : List ℕ) (j from : ℕ) : Type 0 where
   pub within : j ≤ slot_count g e.off e.end
   pub blocks : length cs ≡ length cs₀
   pub counted : TableTrue ws cs
   pub low : from ≤ first_zero cs
   pub outside : Outside ws₀ (index_of g e) (slot_count g e.off e.end) ws
-  pub left : (st : Store) (d : List ℕ) → Seen g e size old ws₀ st
-      → each (run (e.file * g.S) (kinds_in (in_pass first) g st (edit_from e d))) ws (first_slot g e.off + j) (slot_count g e.off e.end - j)
-      ≡ pass g st (edit_from e d) (in_pass first) ws₀
+  pub left : (st : Store) → Seen g e size old ws₀ st
+      → each (run (e.file * g.S) (kinds_in (in_pass which) g st (edit_from e))) ws (first_slot g e.off + j) (slot_count g e.off e.end - j)
+      ≡ pass g st (edit_from e) (in_pass which) ws₀
 
-pub pass-start : {g : Geometry} {e : CodeEdit.Edit} {size : ℕ} {ws cs old : List ℕ} {first : Bool} → Plannable g e ws cs old → Passing g e size first old ws cs ws cs 0 0
-pass-start {g} {e} {ws = ws} {first = first} k =
+pub pass-start : {g : Geometry} {e : CodeEdit.Edit} {size : ℕ} {ws cs old : List ℕ} {which : Pass} → Plannable g e ws cs old → Passing g e size which old ws cs ws cs 0 0
+pass-start {g} {e} {ws = ws} {which = which} k =
     let none : slot_count g e.off e.end - 0 ≡ slot_count g e.off e.end = omega arith in
     record {
       within = omega arith;
@@ -150,44 +152,44 @@ pass-start {g} {e} {ws = ws} {first = first} k =
       counted = k.counted;
       low = omega arith;
       outside = outside_refl ws _ _;
-      left = λ st d s. rw (add-zero (first_slot g e.off), none) (sym (pass_is (in_pass first) g st (edit_from e d) ws));
+      left = λ st s. rw (add-zero (first_slot g e.off), none) (sym (pass_is (in_pass which) g st (edit_from e) ws));
     }
 
-module _ {g : Geometry} {e : CodeEdit.Edit} {size : ℕ} {first : Bool} {old ws₀ cs₀ ws cs : List ℕ} {j from : ℕ} (l : Passing g e size first old ws₀ cs₀ ws cs j from) where
-  pub pass-end : slot_count g e.off e.end ≤ j → Passed g e size first old ws₀ true ws cs
+module _ {g : Geometry} {e : CodeEdit.Edit} {size : ℕ} {which : Pass} {old ws₀ cs₀ ws cs : List ℕ} {j from : ℕ} (l : Passing g e size which old ws₀ cs₀ ws cs j from) where
+  pub pass-end : slot_count g e.off e.end ≤ j → Passed g e size which old ws₀ true ws cs
   pass-end h =
       let none : slot_count g e.off e.end - j ≡ 0 = omega arith in
       record {
         counted = l.counted;
         outside = l.outside;
-        words_are = λ t st d s. rw none at (l.left st d s);
+        words_are = λ t st s. rw none at (l.left st s);
         stopped = λ t. absurd (true≢false t);
-        unfit = λ t st d s. absurd (true≢false t);
+        unfit = λ t st s. absurd (true≢false t);
       }
 
   module _ (fit : first_slot g e.off + slot_count g e.off e.end ≤ g.S) (h : j < slot_count g e.off e.end) {kind : Kind}
       (is : KindIs g e size ws (first_slot g e.off + j) (get_or old j 0) kind)
-      {next : Search} {after cs' : List ℕ} (same : length cs' ≡ length cs)
-      (t : SlotChanged (only (in_pass first) kind) ws cs (index_of g e + j) next after cs') where
-    changed-at : SlotChanged (only (in_pass first) kind) ws cs (e.file * g.S + (first_slot g e.off + j)) next after cs'
+      {next : Result ℕ NoSpace} {after cs' : List ℕ} (same : length cs' ≡ length cs)
+      (t : SlotChanged (only (in_pass which) kind) ws cs (index_of g e + j) next after cs') where
+    changed-at : SlotChanged (only (in_pass which) kind) ws cs (e.file * g.S + (first_slot g e.off + j)) next after cs'
     changed-at =
         let q : index_of g e + j ≡ e.file * g.S + (first_slot g e.off + j) = omega arith in
         rw q at t
 
-    kinds_are : (st : Store) (d : List ℕ) → Seen g e size old ws₀ st
-        → kinds_in (in_pass first) g st (edit_from e d) (first_slot g e.off + j) ≡ only (in_pass first) kind
-    kinds_are st d s = ap (only (in_pass first)) (sym (is.is st d (seen-slot s fit l.outside j h)))
+    kinds_are : (st : Store) → Seen g e size old ws₀ st
+        → kinds_in (in_pass which) g st (edit_from e) (first_slot g e.off + j) ≡ only (in_pass which) kind
+    kinds_are st s = ap (only (in_pass which)) (sym (is.is st (seen-slot s fit l.outside j h)))
 
     one_more : slot_count g e.off e.end - j ≡ suc (slot_count g e.off e.end - (j + 1))
     one_more = omega arith
 
     -- a slot that is done
-    pub pass-turn : {from : ℕ} → next ≡ Search.From from → Passing g e size first old ws₀ cs₀ after cs' (j + 1) from
+    pub pass-turn : {from : ℕ} → next ≡ Ok from → Passing g e size which old ws₀ cs₀ after cs' (j + 1) from
     unfolding run
     pass-turn ok =
         let k : ℕ = first_slot g e.off + j in
         let i : ℕ = e.file * g.S + k in
-        let c : Kind = only (in_pass first) kind in
+        let c : Kind = only (in_pass which) kind in
         let to : after ≡ become c ws i = rw ok at changed-at.words_are in
         let more : first_slot g e.off + (j + 1) ≡ suc k = omega arith in
         record {
@@ -199,10 +201,10 @@ module _ {g : Geometry} {e : CodeEdit.Edit} {size : ℕ} {first : Bool} {old ws�
             slots = ap length to ∙ become-length c ws i;
             same = λ p w. rw to (become_local c ws i p (apart p w));
           });
-          left = λ st d s. rw more
-              (ap (λ x. each (run (e.file * g.S) (kinds_in (in_pass first) g st (edit_from e d))) x (suc k) (slot_count g e.off e.end - (j + 1)))
-              (to ∙ ap (λ a. become a ws i) (sym (kinds_are st d s)))
-              ∙ (rw one_more at (l.left st d s)));
+          left = λ st s. rw more
+              (ap (λ x. each (run (e.file * g.S) (kinds_in (in_pass which) g st (edit_from e))) x (suc k) (slot_count g e.off e.end - (j + 1)))
+              (to ∙ ap (λ a. become a ws i) (sym (kinds_are st s)))
+              ∙ (rw one_more at (l.left st s)));
         }
       where
         apart : (p : ℕ) → (p < index_of g e) ⊎ (index_of g e + slot_count g e.off e.end ≤ p) → p ≢ e.file * g.S + (first_slot g e.off + j)
@@ -210,7 +212,7 @@ module _ {g : Geometry} {e : CodeEdit.Edit} {size : ℕ} {first : Bool} {old ws�
         apart p (inr w) q = omega arith
 
     -- the slot that stops the loop
-    pub pass-stop : index_of g e + slot_count g e.off e.end ≤ length ws₀ → goes_on next ≡ false → Passed g e size first old ws₀ false after cs'
+    pub pass-stop : index_of g e + slot_count g e.off e.end ≤ length ws₀ → is_ok next ≡ false → Passed g e size which old ws₀ false after cs'
     pass-stop room ends =
         let none = changed-at.stopped ends in
         let to : after ≡ ws = rw ends at t.words_are in
@@ -219,18 +221,18 @@ module _ {g : Geometry} {e : CodeEdit.Edit} {size : ℕ} {first : Bool} {old ws�
           counted = t.counted;
           outside = rw to l.outside;
           words_are = λ q. absurd (true≢false (sym q));
-          stopped = λ q. only-owns (in_pass first) kind none.asked;
-          unfit = λ q st d s. rw (same, ← l.left st d s, one_more)
-              (run-stop (e.file * g.S) (kinds_in (in_pass first) g st (edit_from e d))
-              (owns-keeps first g st (edit_from e d) k (kinds_are st d s ∙ none.asked))
+          stopped = λ q. only-owns (in_pass which) kind none.asked;
+          unfit = λ q st s. rw (same, ← l.left st s, one_more)
+              (run-stop (e.file * g.S) (kinds_in (in_pass which) g st (edit_from e))
+              (owns-keeps which g st (edit_from e) k (kinds_are st s ∙ none.asked))
               (length cs) ws k (slot_count g e.off e.end - (j + 1)) (omega (arith, l.outside.slots)) l.counted.pool
-              (rw (kinds_are st d s) none));
+              (rw (kinds_are st s) none));
         }
 
 -- ---- the plan: the two passes, kept or undone
 
 -- the first pass takes no block
-first_done : {g : Geometry} {e : CodeEdit.Edit} {size : ℕ} {old ws after cs : List ℕ} (done : Bool) → Passed g e size true old ws done after cs → done ≡ true
+first_done : {g : Geometry} {e : CodeEdit.Edit} {size : ℕ} {old ws after cs : List ℕ} (done : Bool) → Passed g e size Pass.Holes old ws done after cs → done ≡ true
 first_done true p = refl
 first_done false p = absurd (true≢false (sym (p.stopped refl)))
 
@@ -238,8 +240,8 @@ first_done false p = absurd (true≢false (sym (p.stopped refl)))
 pub saved-ready : {g : Geometry} {e : CodeEdit.Edit} {ws cs old₀ : List ℕ} → Plannable g e ws cs old₀ → (old : List ℕ) → length old ≡ length old₀ → Plannable g e ws cs old
 saved-ready k old long = record { edit = k.edit; counted = k.counted; slots = k.slots; saves = long ∙ k.saves }
 
-pub passed-ready : {g : Geometry} {e : CodeEdit.Edit} {size : ℕ} {first done : Bool} {ws cs old after cs' : List ℕ} → Plannable g e ws cs old
-    → Passed g e size first old ws done after cs' → Plannable g e after cs' old
+pub passed-ready : {g : Geometry} {e : CodeEdit.Edit} {size : ℕ} {which : Pass} {done : Bool} {ws cs old after cs' : List ℕ} → Plannable g e ws cs old
+    → Passed g e size which old ws done after cs' → Plannable g e after cs' old
 passed-ready k p = record { edit = k.edit; counted = p.counted; slots = p.outside.slots ∙ k.slots; saves = k.saves }
 
 module _ {g : Geometry} {e : CodeEdit.Edit} {n : ℕ} {ws cs old : List ℕ} (k : Plannable g e ws cs old) (all : n ≡ slot_count g e.off e.end)
@@ -247,7 +249,7 @@ module _ {g : Geometry} {e : CodeEdit.Edit} {n : ℕ} {ws cs old : List ℕ} (k 
   saved-words : old ≡ words_of g e ws
   saved-words = rw all at (saved_is ws (index_of g e) n old saved)
 
-  module _ {size : ℕ} {d₁ d₂ : Bool} {mid cs₁ last cs₂ : List ℕ} (a : Passed g e size true old ws d₁ mid cs₁) (b : Passed g e size false old mid d₂ last cs₂) where
+  module _ {size : ℕ} {d₁ d₂ : Bool} {mid cs₁ last cs₂ : List ℕ} (a : Passed g e size Pass.Holes old ws d₁ mid cs₁) (b : Passed g e size Pass.Others old mid d₂ last cs₂) where
     changed : Outside ws (index_of g e) n last
     changed = rw all (outside_trans a.outside b.outside)
 
@@ -265,7 +267,7 @@ module _ {g : Geometry} {e : CodeEdit.Edit} {n : ℕ} {ws cs old : List ℕ} (k 
       fitted = rw (q, p, saved-back ws (index_of g e) n old saved (rw all (edit-inside k)) changed) fits;
     }
 
-    module _ (sizes mem d : List ℕ) (is : get_or sizes e.file 0 ≡ size) where
+    module _ (sizes mem : List ℕ) (is : get_or sizes e.file 0 ≡ size) where
       before : Store
       before = record { sizes = sizes; words = ws; mem = mem }
 
@@ -277,23 +279,28 @@ module _ {g : Geometry} {e : CodeEdit.Edit} {n : ℕ} {ws cs old : List ℕ} (k 
       seen-mid : Seen g e size old mid before
       seen-mid = record { size_is = seen.size_is; words_are = seen.words_are; others = others-on e (edit-room k.edit).slots a.outside seen.others }
 
-      plan-is : pass g before (edit_from e d) (in_pass false) mid ≡ plan g before (edit_from e d)
+      plan-is : pass g before (edit_from e) (in_pass Pass.Others) mid ≡ plan g before (edit_from e)
       unfolding plan before
-      plan-is = ap (pass g before (edit_from e d) (in_pass false)) (a.words_are (first_done d₁ a) before d seen)
+      plan-is = ap (pass g before (edit_from e) (in_pass Pass.Others)) (a.words_are (first_done d₁ a) before seen)
 
     module _ {after cs₃ : List ℕ} where
-      pub plan-stopped : not d₂ ≡ true → length cs₃ ≡ length cs₂ → Undone last (index_of g e) old after cs₃ → EditPlanned g e size ws false after cs₃ old
+      pub plan-stopped : d₂ ≡ false → length cs₃ ≡ length cs₂ → Undone last (index_of g e) old after cs₃ → EditPlanned g e size ws false after cs₃ old
       unfolding before
       plan-stopped ends same u = record {
-        planned = λ sizes mem d is. planned_undone ws (index_of g e) n old saved (rw all (edit-inside k)) changed
-            (rw (plan-is sizes mem d is) at (b.unfit (not-true d₂ ends) (before sizes mem d is) d (seen-mid sizes mem d is))) same u;
+        planned = λ sizes mem is. planned_undone ws (index_of g e) n old saved (rw all (edit-inside k)) changed
+            (rw (plan-is sizes mem is) at (b.unfit ends (before sizes mem is) (seen-mid sizes mem is))) same u;
         saved = saved-words;
       }
 
-      pub plan_settled : not d₂ ≡ false → {done : Bool} → Planned (splice last (index_of g e) old) last done after cs₃ → EditPlanned g e size ws done after cs₃ old
+      pub plan_settled : d₂ ≡ true → {done : Bool} → Planned (splice last (index_of g e) old) last done after cs₃ → EditPlanned g e size ws done after cs₃ old
       unfolding before
       plan_settled ok p = record {
-        planned = λ sizes mem d is. planned_settled ws (index_of g e) n old saved (rw all (edit-inside k)) changed
-            (b.words_are (not-false d₂ ok) (before sizes mem d is) d (seen-mid sizes mem d is) ∙ plan-is sizes mem d is) p;
+        planned = λ sizes mem is. planned_settled ws (index_of g e) n old saved (rw all (edit-inside k)) changed
+            (b.words_are ok (before sizes mem is) (seen-mid sizes mem is) ∙ plan-is sizes mem is) p;
         saved = saved-words;
       }
+
+-- the answer of a `?` that ends
+pub err-not_ok : {T E : Type 0} (r : Result T E) → IsErr r → is_ok r ≡ false
+err-not_ok (Ok x) h = sym h
+err-not_ok (Err e) h = refl

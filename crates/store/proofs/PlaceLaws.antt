@@ -72,10 +72,8 @@ module _ (g : Geometry) (st : Store) (f i n w : ℕ) (h : Readable g st.words st
       let r : (i + j) % g.B ≡ i % g.B + j = omega (arith, e, div-add-mod' i g.B, div-add-mod' (i + j) g.B, ap (λ k. k * g.B) e) in
       rw (e, r, ← is, ne_eqb (w / 2) 0 d, ← sub-one (w / 2), ← add_assoc ((w / 2 - 1) * g.B) (i % g.B) j)
 
-  pub read-block : w / 2 ≢ 0 → (end : ℕ) → end ≡ block_place g w i + n → take (end - block_place g w i) (drop (block_place g w i) st.mem) ≡ bytes_from g st f i n
-  read-block d end e =
-      let k : end - start ≡ n = omega arith in
-      rw k (ext_get_or 0 _ _ (length-take n (drop start st.mem) ∙ rw (length-drop start st.mem) (omega (arith, inside) ∙ sym (length_tab _ n i))) at_j)
+  pub read-block : w / 2 ≢ 0 → take n (drop (block_place g w i) st.mem) ≡ bytes_from g st f i n
+  read-block d = ext_get_or 0 _ _ (length-take n (drop start st.mem) ∙ rw (length-drop start st.mem) (omega (arith, inside) ∙ sym (length_tab _ n i))) at_j
     where
       start : ℕ
       start = block_place g w i

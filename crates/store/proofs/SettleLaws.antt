@@ -6,16 +6,13 @@ use mathlib.Core.List.{List}
 use mathlib.Core.Logic.{inl, inr}
 use native.Mathlib.Decide.{dec_lt}
 use native.Mathlib.Omega.{arith}
-use borrow.Author.Tests.{eqb-true}
 use lib.ListN.{length, get_or, take, drop, length-take, length-drop, get_or-eq_default}
-use lib.Dec.{eqb, leb}
+use lib.Dec.{leb}
 use lib.Seq.{get_or-take, get_or-drop, length-take-le, ext_get_or}
 use Rattle.xdr.specs.Bytes.{splice}
 use Rattle.xdr.proofs.BytesLaws.{length-splice, splice_in, splice-below, splice-above}
-use Rattle.rules.specs.Lists.{all_to}
 use Rattle.rules.specs.Store.{need, fits_pool}
 use Rattle.rules.proofs.PlanLaws.{InPool}
-use Rattle.rules.proofs.SoundLaws.{all_to_at}
 use Rattle.tables.specs.Tables.{TableTrue}
 use Rattle.store.specs.Plan.{Planned, Outside, Undone}
 use Rattle.store.proofs.StoreLaws.{splice-same}
@@ -30,23 +27,13 @@ module _ (ws old : List ℕ) (i : ℕ) (inside : i + length old ≤ length ws) w
   abbrev part : List ℕ
   part = take (i + length old - i) (drop i ws)
 
-  -- what `same_words` asks
-  pub same_asked : length (take (i + length old - i) (drop i ws)) ≡ length old
-  same_asked = length-take-le (i + length old - i) (drop i ws) (rw (length-drop i ws) (omega arith)) ∙ omega arith
-
   -- where they are those of old, the need is what it was, and fits
-  module _ (same : all_to (length part) (λ k. eqb (get_or part k 0) (get_or old k 0)) ≡ true) where
-    unchanged : ws ≡ splice ws i old
-    unchanged =
-        let is : part ≡ old = ext_get_or 0 part old same_asked (λ k h. eqb-true (get_or part k 0) (get_or old k 0) (all_to_at (length part) _ same k h)) in
-        let all : i + length old - i ≡ length old = omega arith in
-        sym (splice-same ws i (length old) inside) ∙ ap (splice ws i) (ap (λ n. take n (drop i ws)) (sym all) ∙ is)
-
-    pub need-same : need ws ≡ need (splice ws i old)
-    need-same = ap need unchanged
-
-    pub planned-same : (cs : List ℕ) → TableTrue ws cs → fits_pool (length cs) (splice ws i old) ≡ true → Planned (splice ws i old) ws true ws cs
-    planned-same cs h fitted = planned-kept h (ap (λ x. leb x (length cs)) need-same ∙ fitted)
+  pub planned-same : part ≡ old → (cs : List ℕ) → TableTrue ws cs → fits_pool (length cs) (splice ws i old) ≡ true → Planned (splice ws i old) ws true ws cs
+  planned-same is cs h fitted =
+      let all : i + length old - i ≡ length old = omega arith in
+      let unchanged : ws ≡ splice ws i old
+      = sym (splice-same ws i (length old) inside) ∙ ap (splice ws i) (ap (λ n. take n (drop i ws)) (sym all) ∙ is) in
+      planned-kept h (ap (λ x. leb (need x) (length cs)) unchanged ∙ fitted)
 
 -- undone in a pool of m blocks
 pub planned-back : {back planned after cs : List ℕ} {m : ℕ} → fits_pool m planned ≡ false → length cs ≡ m → after ≡ back → TableTrue after cs

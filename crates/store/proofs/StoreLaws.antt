@@ -1,16 +1,16 @@
 -- For the code that stores an edit's bytes: what it does to a block, a slot's share of a region, and the loop over the slots.
 use Prim.Native.Nat.{ℕ, zero, suc, pred, ◌+◌, ◌*◌, ◌/◌, ◌≤◌, ◌<◌, max, min, ◌-◌}
 use mathlib.Core.Path.{◌≡◌, refl, sym, ap, ◌∙◌}
-use mathlib.Core.List.{List, ◌++◌}
+use mathlib.Core.List.{List, ◌++◌, append_assoc}
 use mathlib.Core.Logic.{◌≢◌, inl, inr}
-use native.Mathlib.Nat.{sub-zero, add-suc, add-sub_cancel_left, mul-le-mul_right}
+use native.Mathlib.Nat.{sub-zero, add-suc, mul-le-mul_right}
 use native.Mathlib.Numerals.{add-one}
 use native.Mathlib.Decide.{dec_le, dec_lt}
 use native.Mathlib.Omega.{arith}
 use borrow.Author.Tests.{eq-eqb, ne_eqb}
 use borrow.Rule.Slice.PartMut as P
-use lib.ListN.{length, get_or, take, drop, replicate, length-take, length-drop}
-use lib.Seq.{length-take-le, take_at, drop_at, drop-drop, get_or-take, get_or-drop}
+use lib.ListN.{length, get_or, take, drop, replicate, length-take, length-drop, length-replicate}
+use lib.Seq.{length-take-le, take-append-add, drop-append-add, take-append-le, drop-append-le, drop-drop, get_or-take, get_or-drop}
 use Rattle.xdr.specs.Bytes.{splice}
 use Rattle.xdr.proofs.BytesLaws.{length-splice, put-splice, put_zeroed}
 use Rattle.rules.specs.Lists.{tabulate, each}
@@ -33,29 +33,24 @@ splice-same m a n h =
     let e : length (take n (drop a m)) ≡ n = length-take n (drop a m) ∙ rw (length-drop a m) (omega arith) in
     rw (e, ← drop-drop n a m) (P.put_same a n m)
 
-module _ (m bs : List ℕ) (a : ℕ) (h : a ≤ length m) where
-  rest : drop a (splice m a bs) ≡ bs ++ drop (a + length bs) m
-  unfolding splice
-  rest = drop_at (take a m) (bs ++ drop (a + length bs) m) a (length-take-le a m h)
-
-  -- what stands there afterwards
-  part-splice : (n : ℕ) → length bs ≡ n → take n (drop a (splice m a bs)) ≡ bs
-  part-splice n e = rw rest (take_at bs (drop (a + length bs) m) n e)
-
-  -- a second one of the same length in its place
-  splice-twice : (cs : List ℕ) → length cs ≡ length bs → splice (splice m a bs) a cs ≡ splice m a cs
-  unfolding splice
-  splice-twice cs e =
-      rw (take_at (take a m) (bs ++ drop (a + length bs) m) a (length-take-le a m h), e, ← drop-drop (length bs) a (splice m a bs), rest, drop_at bs (drop (a + length bs) m) (length bs) refl)
+-- one that lies inside another
+splice-inner : (m bs cs : List ℕ) (a lo : ℕ) → a ≤ length m → lo + length cs ≤ length bs → splice (splice m a bs) (a + lo) cs ≡ splice m a (splice bs lo cs)
+unfolding splice
+splice-inner m bs cs a lo h l =
+    let t = take a m in
+    let r = drop (a + length bs) m in
+    let k : length t ≡ a = length-take-le a m h in
+    let front : take (a + lo) (t ++ (bs ++ r)) ≡ t ++ take lo bs
+    = ap (λ (n : ℕ). take (n + lo) (t ++ (bs ++ r))) (sym k) ∙ take-append-add t (bs ++ r) lo ∙ ap (λ (x : List ℕ). t ++ x) (take-append-le lo bs r (omega arith)) in
+    let sum : a + lo + length cs ≡ length t + (lo + length cs) = omega arith in
+    let back : drop (a + lo + length cs) (t ++ (bs ++ r)) ≡ drop (lo + length cs) bs ++ r
+    = ap (λ (n : ℕ). drop n (t ++ (bs ++ r))) sum ∙ drop-append-add t (bs ++ r) (lo + length cs) ∙ drop-append-le (lo + length cs) bs r l in
+    let size : length (take lo bs ++ (cs ++ drop (lo + length cs) bs)) ≡ length bs = length-splice bs lo cs l in
+    rw (front, back, size)
+    (append_assoc t (take lo bs) (cs ++ (drop (lo + length cs) bs ++ r))
+    ∙ ap (λ (x : List ℕ). t ++ x) (sym (append_assoc (take lo bs) (cs ++ drop (lo + length cs) bs) r ∙ ap (λ (x : List ℕ). take lo bs ++ x) (append_assoc cs (drop (lo + length cs) bs) r))))
 
 -- ---- one block
-
--- bytes that went through a page
-pub copied : (m page through ys : List ℕ) (from to : ℕ) → through ≡ take (from + length page - from) (drop from m) → ys ≡ through
-    → P.put_mid to (to + length through - to) m ys ≡ splice m to (take (length page) (drop from m))
-copied m page through ys from to e f =
-    let g : through ≡ take (length page) (drop from m) = e ∙ rw (add-sub_cancel_left from (length page)) in
-    put-splice to (length through) m ys (take (length page) (drop from m)) (f ∙ g) (sym (ap length g))
 
 pub block_start : (g : Geometry) (w : ℕ) → 1 ≤ w / 2 → Starts g w ((w / 2 - 1) * g.B)
 block_start g w h =
@@ -87,18 +82,11 @@ module _ (g : Geometry) (m : List ℕ) (old new : ℕ) (h : Backed g (length m) 
     fresh-copy q m' t d e = rw (block-bytes g m old d, ← s.start, ← t.start) e
 
     -- bytes put over a part of it
-    pub part-stored : (lo : ℕ) (cs m' ys : List ℕ) → lo + length cs ≤ g.B → m' ≡ splice m (pred (new / 2) * g.B) (slot_bytes g m old)
-        → ys ≡ splice (take (r + g.B - r) (drop r m')) lo cs
-        → P.put_mid r (r + g.B - r) m' ys ≡ splice m (pred (new / 2) * g.B) (splice (slot_bytes g m old) lo cs)
-    part-stored lo cs m' ys l e f =
-        let bs = slot_bytes g m old in
-        let n : length bs ≡ g.B = slot-long g m old h.old_inside in
-        let in_m : r ≤ length m = omega (arith, h.new_inside, s.end) in
-        let e' : m' ≡ splice m r bs = rw (← s.start) at e in
-        let part : take (r + g.B - r) (drop r m') ≡ bs = rw (add-sub_cancel_left r g.B, e') (part-splice m bs r in_m g.B n) in
-        let size : length (splice bs lo cs) ≡ length bs = length-splice bs lo cs (rw n l) in
-        put-splice r g.B m' ys (splice bs lo cs) (f ∙ ap (λ x. splice x lo cs) part) (size ∙ n)
-        ∙ rw e' (splice-twice m bs r in_m (splice bs lo cs) size ∙ ap (λ x. splice m x (splice bs lo cs)) s.start)
+    pub part-stored : (lo : ℕ) (cs m' : List ℕ) → lo + length cs ≤ g.B → m' ≡ splice m (pred (new / 2) * g.B) (slot_bytes g m old)
+        → splice m' (r + lo) cs ≡ splice m (pred (new / 2) * g.B) (splice (slot_bytes g m old) lo cs)
+    part-stored lo cs m' l e =
+        let n : length (slot_bytes g m old) ≡ g.B = slot-long g m old h.old_inside in
+        rw (e, ← s.start) (splice-inner m (slot_bytes g m old) cs r lo (omega (arith, h.new_inside, s.end)) (omega (arith, n)))
 
 -- ---- one slot's share of a region: the places from a up to b
 
@@ -145,6 +133,36 @@ write-share g m d old new k off a b h ha hb =
     let n : b - off - (a - off) ≡ b - a = omega arith in
     rw (n, ← write-part d off a (b - a) (omega arith) (omega (arith, h.after, h.before)))
     (share g m old new k off (off + length d) a b h ha hb (λ p. get_or d (p - off) 0))
+
+-- the part of a block that is lent comes back with the share
+module _ (g : Geometry) (m : List ℕ) (old new k off end a b r : ℕ) (h : Touched g (length m) old new k off end)
+    (ha : a ≡ max off (k * g.B)) (hb : b ≡ min end (k * g.B + g.B)) (s : Starts g new r)
+    (m' : List ℕ) (fresh : m' ≡ splice m (pred (new / 2) * g.B) (slot_bytes g m old)) (ys : List ℕ) where
+  pub bytes-stored : (cs : List ℕ) → length cs ≡ b - a → ys ≡ cs
+      → P.put_mid (r + (a - k * g.B)) (r + (a - k * g.B) + (b - a) - (r + (a - k * g.B))) m' ys
+      ≡ splice m (pred (new / 2) * g.B) (splice (slot_bytes g m old) (a - k * g.B) cs)
+  bytes-stored cs n e =
+      put-splice (r + (a - k * g.B)) (b - a) m' ys cs e n
+      ∙ part-stored g m old new h.backed r s (a - k * g.B) cs m' (omega (arith, n, h.ordered, h.after, h.before)) fresh
+
+  pub zeros-stored : ys ≡ replicate (length (take (r + (a - k * g.B) + (b - a) - (r + (a - k * g.B))) (drop (r + (a - k * g.B)) m'))) 0
+      → P.put_mid (r + (a - k * g.B)) (r + (a - k * g.B) + (b - a) - (r + (a - k * g.B))) m' ys ≡ store_slot g (within off end) (λ i. 0) old new m k
+  zeros-stored z =
+      let long : length m' ≡ length m
+      = ap length fresh ∙ length-splice m (pred (new / 2) * g.B) (slot_bytes g m old) (omega (arith, slot-long g m old h.backed.old_inside, s.start, s.end, h.backed.new_inside)) in
+      put_zeroed (r + (a - k * g.B)) (b - a) m' ys (omega (arith, long, s.end, h.backed.new_inside, h.ordered, h.after, h.before)) z
+      ∙ part-stored g m old new h.backed r s (a - k * g.B) (replicate (b - a) 0) m' (rw (length-replicate {A = ℕ} (b - a) 0) (omega (arith, h.ordered, h.after, h.before))) fresh
+      ∙ zero-share g m old new k off end a b h ha hb
+
+pub write-stored : (g : Geometry) (m d : List ℕ) (old new k off a b r : ℕ) → (h : Touched g (length m) old new k off (off + length d))
+    → a ≡ max off (k * g.B) → b ≡ min (off + length d) (k * g.B + g.B) → Starts g new r
+    → (m' : List ℕ) → m' ≡ splice m (pred (new / 2) * g.B) (slot_bytes g m old) → (ys : List ℕ) → ys ≡ take (b - off - (a - off)) (drop (a - off) d)
+    → P.put_mid (r + (a - k * g.B)) (r + (a - k * g.B) + (b - a) - (r + (a - k * g.B))) m' ys
+    ≡ store_slot g (within off (off + length d)) (λ p. get_or d (p - off) 0) old new m k
+write-stored g m d old new k off a b r h ha hb s m' fresh ys e =
+    bytes-stored g m old new k off (off + length d) a b r h ha hb s m' fresh ys _
+    (length-take (b - off - (a - off)) (drop (a - off) d) ∙ rw (length-drop (a - off) d) (omega (arith, h.after, h.before, h.ordered))) e
+    ∙ write-share g m d old new k off a b h ha hb
 
 -- ---- the slots in order
 

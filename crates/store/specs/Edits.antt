@@ -10,16 +10,16 @@ use Rattle.store.specs.EditPromises.{EditKnown}
 
 -- ---- values
 
--- data d goes to the places from off on
-abbrev pub act_from : Code.Act → ℕ → List ℕ → Act
-act_from Code.Act.Write off d = write (λ p. get_or d (p - off) 0)
-act_from (Code.Act.Copy s) off d = copy s.file s.off
-act_from (Code.Act.Clone s) off d = clone s.file s.off
-act_from Code.Act.Allocate off d = allocate
-act_from Code.Act.Deallocate off d = deallocate
+-- a WRITE's bytes go to the places from off on
+abbrev pub act_from : Code.Act → ℕ → Act
+act_from (Code.Act.Write d) off = write (λ p. get_or d.now (p - off) 0)
+act_from (Code.Act.Copy s) off = copy s.file s.off
+act_from (Code.Act.Clone s) off = clone s.file s.off
+act_from Code.Act.Allocate off = allocate
+act_from Code.Act.Deallocate off = deallocate
 
-abbrev pub edit_from : CodeEdit.Edit → List ℕ → Edit
-edit_from e d = record { file = e.file; off = e.off; end = e.end; act = act_from e.act e.off d }
+abbrev pub edit_from : CodeEdit.Edit → Edit
+edit_from e = record { file = e.file; off = e.off; end = e.end; act = act_from e.act e.off }
 
 abbrev pub kind_from : CodeKind.Kind → Kind
 kind_from CodeKind.Kind.Owns = owns
@@ -47,16 +47,16 @@ pub record Clones (g : Geometry) (st : Store) (s : Source) (off n : ℕ) : Type 
   pub source_even : s.off % g.B ≡ 0
   pub target_even : off % g.B ≡ 0
 
--- what no error says of an act in file f, from off up to end, with data d
-abbrev pub ActKnown : Geometry → Store → ℕ → ℕ → ℕ → List ℕ → Code.Act → Type 0
-ActKnown g st f off end d Code.Act.Write = end ≡ off + length d
-ActKnown g st f off end d (Code.Act.Copy s) = Copies g st s f (end - off)
-ActKnown g st f off end d (Code.Act.Clone s) = Clones g st s off (end - off)
-ActKnown g st f off end d Code.Act.Allocate = Unit {0}
-ActKnown g st f off end d Code.Act.Deallocate = end ≤ size_of st f
+-- what no error says of an act in file f, from off up to end
+abbrev pub ActKnown : Geometry → Store → ℕ → ℕ → ℕ → Code.Act → Type 0
+ActKnown g st f off end (Code.Act.Write d) = end ≡ off + length d.now
+ActKnown g st f off end (Code.Act.Copy s) = Copies g st s f (end - off)
+ActKnown g st f off end (Code.Act.Clone s) = Clones g st s off (end - off)
+ActKnown g st f off end Code.Act.Allocate = Unit {0}
+ActKnown g st f off end Code.Act.Deallocate = end ≤ size_of st f
 
 -- a surveyed sound store, and an edit that no error forbids; one of no bytes may lie anywhere
-pub record Applies (g : Geometry) (st : Store) (counts : List ℕ) (e : CodeEdit.Edit) (d : List ℕ) : Type 0 where
+pub record Applies (g : Geometry) (st : Store) (counts : List ℕ) (e : CodeEdit.Edit) : Type 0 where
   pub known : EditKnown g st counts e.file
   pub fits : e.off < e.end → e.end ≤ g.S * g.B
-  pub act : ActKnown g st e.file e.off e.end d e.act
+  pub act : ActKnown g st e.file e.off e.end e.act

@@ -1,5 +1,5 @@
 -- The plan of any edit in place: where it is made, and what its parts leave. Contracts cite these records.
-use Rattle.std.specs.Prelude.{ℕ, ◌+◌, ◌*◌, ◌/◌, ◌≤◌, ◌<◌, ◌-◌, ◌≡◌, Bool, true, false, cond, not, List, ◌≢◌, length, get_or, take, drop}
+use Rattle.std.specs.Prelude.{ℕ, ◌+◌, ◌*◌, ◌/◌, ◌≤◌, ◌<◌, ◌-◌, ◌≡◌, Bool, true, false, cond, not, List, ◌≢◌, length, get_or, take, drop, Result, is_ok, IfOk}
 use Rattle.rules.specs.Store.{Geometry, good_geometry, Store, size_of, word_of, hole_or_shared, lowest_free, fits_pool}
 use Rattle.rules.specs.Edit.{Edit, copying, first_slot, slot_count, Kind, owns, given, cleared, shares, reserved, stays, from_holes, goes_first, kind_of, become, pass, plan}
 use Rattle.tables.specs.Tally.{first_zero}
@@ -7,7 +7,8 @@ use Rattle.tables.specs.Tables.{TableTrue}
 use Rattle.store.specs.declared.edit.Source.{Source}
 use Rattle.store.specs.declared.edit.Act as Code
 use Rattle.store.specs.declared.edit.Edit as CodeEdit
-use Rattle.store.specs.declared.edit.Search.{Search}
+use Rattle.store.specs.declared.edit.Pass as CodePass
+use Rattle.store.specs.declared.edit.NoSpace.{NoSpace}
 use Rattle.store.specs.Edits.{edit_from}
 use Rattle.store.specs.Plan.{Planned, Outside}
 
@@ -21,7 +22,7 @@ pub record CopySource (g : Geometry) (s : Source) (f n : ℕ) : Type 0 where
 
 -- where the source lies, for an act in file f from off up to end; the slots of a CLONE's lie in the table
 abbrev pub SourceIn : Geometry → ℕ → ℕ → ℕ → Code.Act → Type 0
-SourceIn g f off end Code.Act.Write = Unit {0}
+SourceIn g f off end (Code.Act.Write d) = Unit {0}
 SourceIn g f off end (Code.Act.Copy s) = CopySource g s f (end - off)
 SourceIn g f off end (Code.Act.Clone s) = s.file * g.S + s.off / g.B + slot_count g off end ≤ g.F * g.S
 SourceIn g f off end Code.Act.Allocate = Unit {0}
@@ -90,7 +91,7 @@ pub record SlotSeen (g : Geometry) (e : CodeEdit.Edit) (size : ℕ) (ws : List �
 
 -- what becomes of slot k in any such store
 pub record KindIs (g : Geometry) (e : CodeEdit.Edit) (size : ℕ) (ws : List ℕ) (k w : ℕ) (c : Kind) : Type 0 where
-  pub is : (st : Store) (d : List ℕ) → SlotSeen g e size ws k w st → c ≡ kind_of g st (edit_from e d) k
+  pub is : (st : Store) → SlotSeen g e size ws k w st → c ≡ kind_of g st (edit_from e) k
   pub inside : SharesIn (g.F * g.S) c
 
 -- slot i can be changed: its table is true, a slot that it shares lies in the table too, and no block below `from` is free
@@ -106,29 +107,19 @@ pub record NoBlock (c : Kind) (ws : List ℕ) (i n : ℕ) : Type 0 where
   pub wants : hole_or_shared ws (get_or ws i 0) ≡ true
   pub full : n ≤ lowest_free ws
 
--- whether the search goes on: the slot is done
-abbrev pub goes_on : Search → Bool
-goes_on (Search.From b) = true
-goes_on Search.Full = false
-
--- no block below the one from which it goes on is free
-abbrev pub NoneBelow : Search → List ℕ → Type 0
-NoneBelow (Search.From b) counts = b ≤ first_zero counts
-NoneBelow Search.Full counts = Unit {0}
-
--- slot i after its kind; not done, and nothing changed, where there is no block for it
-pub record SlotChanged (c : Kind) (ws counts : List ℕ) (i : ℕ) (s : Search) (after counts' : List ℕ) : Type 0 where
-  pub words_are : after ≡ cond (goes_on s) (become c ws i) ws
+-- slot i after its kind, and a number below which no block is free; an error, and nothing changed, where there is no block for the slot
+pub record SlotChanged (c : Kind) (ws counts : List ℕ) (i : ℕ) (next : Result ℕ NoSpace) (after counts' : List ℕ) : Type 0 where
+  pub words_are : after ≡ cond (is_ok next) (become c ws i) ws
   pub counted : TableTrue after counts'
-  pub searched : NoneBelow s counts'
-  pub stopped : goes_on s ≡ false → NoBlock c ws i (length counts)
+  pub searched : IfOk next (λ b. b ≤ first_zero counts')
+  pub stopped : is_ok next ≡ false → NoBlock c ws i (length counts)
 
 -- ---- a pass
 
--- the slots of the first pass, and those of the second
-abbrev pub in_pass : Bool → Kind → Bool
-in_pass true c = goes_first c
-in_pass false c = not (goes_first c)
+-- the kinds of a pass
+abbrev pub in_pass : CodePass.Pass → Kind → Bool
+in_pass CodePass.Pass.Holes c = goes_first c
+in_pass CodePass.Pass.Others c = not (goes_first c)
 
 -- in a pass that is not its own a slot stays
 abbrev pub only : (Kind → Bool) → Kind → Kind
@@ -149,17 +140,17 @@ pub record Seen (g : Geometry) (e : CodeEdit.Edit) (size : ℕ) (old ws : List �
   pub others : Others g e.file ws st.words
 
 -- a pass over e's slots, of any such store; not done only where a slot takes a block, and then the words after the whole pass don't fit
-pub record Passed (g : Geometry) (e : CodeEdit.Edit) (size : ℕ) (first : Bool) (old ws : List ℕ) (done : Bool) (after counts : List ℕ) : Type 0 where
+pub record Passed (g : Geometry) (e : CodeEdit.Edit) (size : ℕ) (which : CodePass.Pass) (old ws : List ℕ) (done : Bool) (after counts : List ℕ) : Type 0 where
   pub counted : TableTrue after counts
   pub outside : Outside ws (index_of g e) (slot_count g e.off e.end) after
-  pub words_are : done ≡ true → (st : Store) (d : List ℕ) → Seen g e size old ws st → after ≡ pass g st (edit_from e d) (in_pass first) ws
-  pub stopped : done ≡ false → in_pass first owns ≡ true
-  pub unfit : done ≡ false → (st : Store) (d : List ℕ) → Seen g e size old ws st → fits_pool (length counts) (pass g st (edit_from e d) (in_pass first) ws) ≡ false
+  pub words_are : done ≡ true → (st : Store) → Seen g e size old ws st → after ≡ pass g st (edit_from e) (in_pass which) ws
+  pub stopped : done ≡ false → in_pass which owns ≡ true
+  pub unfit : done ≡ false → (st : Store) → Seen g e size old ws st → fits_pool (length counts) (pass g st (edit_from e) (in_pass which) ws) ≡ false
 
 -- ---- the plan
 
--- for every store with these words where e's file has that size, and data d; with the old words of e's slots
+-- for every store with these words where e's file has that size; with the old words of e's slots
 pub record EditPlanned (g : Geometry) (e : CodeEdit.Edit) (size : ℕ) (ws : List ℕ) (done : Bool) (after counts old : List ℕ) : Type 0 where
-  pub planned : (sizes mem d : List ℕ) → get_or sizes e.file 0 ≡ size
-      → Planned ws (plan g (record { sizes = sizes; words = ws; mem = mem }) (edit_from e d)) done after counts
+  pub planned : (sizes mem : List ℕ) → get_or sizes e.file 0 ≡ size
+      → Planned ws (plan g (record { sizes = sizes; words = ws; mem = mem }) (edit_from e)) done after counts
   pub saved : old ≡ words_of g e ws

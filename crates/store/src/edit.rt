@@ -1,16 +1,16 @@
-// An edit as a value. WRITE's data stands beside it.
+// An edit as a value, with the bytes that a WRITE brings.
 
 // Where the bytes of a COPY or a CLONE come from: the places of a file from `off` on.
-#[derive(Clone, Copy)]
+#[derive(Clone, Copy, Debug, PartialEq, Eq)]
 pub struct Source {
     pub file: usize,
     pub off: usize,
 }
 
 // What an edit does at the places of its region.
-#[derive(Clone, Copy)]
-pub enum Act {
-    Write,
+#[derive(Clone, Copy, Debug)]
+pub enum Act<'a> {
+    Write(&'a [u8]),
     Copy(Source),
     Clone(Source),
     Allocate,
@@ -18,16 +18,24 @@ pub enum Act {
 }
 
 // The file, the region, from `off` up to `end`, and what is done there.
-#[derive(Clone, Copy)]
-pub struct Edit {
+#[derive(Clone, Copy, Debug)]
+pub struct Edit<'a> {
     pub file: usize,
     pub off: usize,
     pub end: usize,
-    pub act: Act,
+    pub act: Act<'a>,
+}
+
+// A slot of the region: its index in the file, its word before the edit and the planned one.
+#[derive(Clone, Copy, Debug, PartialEq, Eq)]
+pub struct Slot {
+    pub index: usize,
+    pub old: u32,
+    pub new: u32,
 }
 
 // What becomes of a slot of the region.
-#[derive(Clone, Copy)]
+#[derive(Clone, Copy, Debug, PartialEq, Eq)]
 pub enum Kind {
     // It gets an unshared block.
     Owns,
@@ -42,11 +50,15 @@ pub enum Kind {
     Stays,
 }
 
-// How the search for free blocks goes on after a slot.
-#[derive(Clone, Copy)]
-pub enum Search {
-    // No block below this one is free.
-    From(usize),
-    // The slot takes a block, and none is free.
-    Full,
+// Which slots a pass changes.
+#[derive(Clone, Copy, Debug, PartialEq, Eq)]
+pub enum Pass {
+    // Those that become holes.
+    Holes,
+    // The others.
+    Others,
 }
+
+/// The store would need more blocks than there are.
+#[derive(Clone, Copy, Debug, PartialEq, Eq)]
+pub struct NoSpace;

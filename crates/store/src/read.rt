@@ -8,15 +8,11 @@ use crate::seek::word_at;
 use tables::Geometry;
 
 // Of the n bytes from place i on, how many lie in the slot of place i.
-fn slot_share(b: usize, i: usize, n: usize) -> usize
+pub fn slot_share(b: usize, i: usize, n: usize) -> usize
     requires { 0 < b }
     ensures { result ≡ min n (b - i % b) }
 {
-    let rest = b - i % b;
-    if n < rest {
-        return n;
-    }
-    rest
+    n.min(b - i % b)
 }
 
 // The file's bytes from place i on, all of one slot, into the whole of `out`.
@@ -27,12 +23,11 @@ fn read_slot(g: Geometry, words: &[u32], mem: &[u8], f: usize, i: usize, out: &m
 {
     let k = (word_at(g, words, f, i) / 2) as usize;
     if k == 0 {
-        xdr::zero(out);
+        out.fill(0);
         return;
     }
     let start = (k - 1) * g.block_size + i % g.block_size;
-    let end = start + out.len();
-    xdr::copy(out, &mem[start..end]);
+    out.copy_from_slice(&mem[start..start + out.len()]);
 }
 
 // The file's bytes from place off on into the whole of `out`.

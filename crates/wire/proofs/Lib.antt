@@ -1,4 +1,2 @@
-pub mod RequestLaws
-pub mod FieldLaws
+pub mod ItemLaws
 pub mod AttrLaws
-pub mod SameLaws

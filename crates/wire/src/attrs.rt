@@ -1,16 +1,17 @@
 // GETATTR: which attributes a bitmap asks for, and the result that shows them.
 ghost use Rattle.std.specs.Prelude.{◌≡◌, cond, [], ◌+◌, ◌/◌, ◌%◌, ◌<◌, ◌≤◌, length, get_or, eqb};
-ghost use Rattle.xdr.specs.Bytes.{part_of, Written};
+ghost use Rattle.xdr.specs.Bytes.{part_of};
+ghost use Rattle.xdr.specs.Writing.{Wrote, HasRoom};
 ghost use Rattle.xdr.specs.Encode.{u32, u64, array};
 ghost use Rattle.xdr.specs.Decode.{numbers};
 ghost use Rattle.rules.specs.Attributes.{supported, select, bitmap_length, bitmap};
 ghost use Rattle.rules.specs.Operation.{attrs_reply};
 ghost use Rattle.wire.specs.Attrs.{asks, AsksAs, attrs_of, bitmap_bytes, value_bytes};
 
-use xdr::{Cursor, Span, Word};
+use xdr::{Reader, Span, Writer};
 
 // The attributes that are asked for.
-#[derive(Clone, Copy)]
+#[derive(Clone, Copy, Debug, PartialEq, Eq)]
 pub struct Asked {
     pub supported_attrs: bool,
     pub size: bool,
@@ -20,7 +21,7 @@ pub struct Asked {
 }
 
 // What a file's attributes say; the value of supported_attrs is the same for all files.
-#[derive(Clone, Copy)]
+#[derive(Clone, Copy, Debug, PartialEq, Eq)]
 pub struct FileAttrs {
     pub size: u64,
     pub space_used: u64,
@@ -61,10 +62,11 @@ fn bitmap_word(s: &[u8], d: Span, i: usize) -> u32
     requires { i < 4 }
     ensures { result ≡ get_or (numbers (part_of s.now d)) i 0 }
 {
-    let Word::Value(w, _) = Cursor::new(4 * i).word(xdr::part(s, d)) else {
-        return 0;
+    let mut r = Reader {
+        bytes: xdr::part(s, d),
+        at: 4 * i,
     };
-    w
+    r.u32().unwrap_or(0)
 }
 
 fn has_bit(w: u32, bit: u32) -> bool
@@ -96,100 +98,84 @@ pub fn asked_in(s: &[u8], d: Span) -> Asked
 fn bit_if(asked: bool, bit: u32) -> u32
     ensures { result ≡ cond asked bit 0 }
 {
-    if asked {
-        return bit;
-    }
-    0
+    if asked { bit } else { 0 }
 }
 
 // How many words it has: the last is not zero.
 fn bitmap_words(a: Asked) -> usize
     ensures { result ≡ bitmap_length (select (asks a) supported) }
 {
-    if a.space_freed {
-        return 3;
-    }
-    if a.clone_blksize {
+    if a.space_freed || a.clone_blksize {
         return 3;
     }
     if a.space_used {
         return 2;
     }
-    if a.size {
-        return 1;
-    }
-    if a.supported_attrs {
+    if a.size || a.supported_attrs {
         return 1;
     }
     0
 }
 
-fn put_bitmap(reply: &mut [u8], at: usize, a: Asked) -> usize
-    requires { at + 16 ≤ length reply.old }
-    ensures { Written (bitmap_bytes a) (length (bitmap_bytes a)) at reply.old reply.new result }
+fn put_bitmap(w: &mut Writer<'_>, a: Asked)
+    requires { HasRoom 16 w.old }
+    ensures { Wrote (bitmap_bytes a) w.old w.new }
 {
     let words = [
         bit_if(a.supported_attrs, Asked::SUPPORTED_ATTRS) + bit_if(a.size, Asked::SIZE),
         bit_if(a.space_used, Asked::SPACE_USED),
         bit_if(a.clone_blksize, Asked::CLONE_BLKSIZE) + bit_if(a.space_freed, Asked::SPACE_FREED),
     ];
-    xdr::put_array(reply, at, &words[..bitmap_words(a)])
+    w.array(&words[..bitmap_words(a)]);
 }
 
 // ---- the values, each where it is asked for
 
-fn put_u32_if(reply: &mut [u8], at: usize, asked: bool, n: u32) -> usize
-    requires { at + 4 ≤ length reply.old }
-    ensures { Written (cond asked (u32 n) []) (cond asked 4 0) at reply.old reply.new result }
-{
-    if asked {
-        return xdr::put_u32(reply, at, n);
-    }
-    at
-}
-
-fn put_u64_if(reply: &mut [u8], at: usize, asked: bool, n: u64) -> usize
-    requires { at + 8 ≤ length reply.old }
-    ensures { Written (cond asked (u64 n) []) (cond asked 8 0) at reply.old reply.new result }
-{
-    if asked {
-        return xdr::put_u64(reply, at, n);
-    }
-    at
-}
-
 // The bitmap of all that we have.
-fn put_supported_if(reply: &mut [u8], at: usize, asked: bool) -> usize
-    requires { at + 16 ≤ length reply.old }
-    ensures { Written (cond asked (array (bitmap supported)) []) (cond asked 16 0) at reply.old reply.new result }
+#[tactic(auto, using(xdr::proofs::WritingLaws::wrote_none, crate::proofs::AttrLaws::supported_size))]
+fn put_supported_if(w: &mut Writer<'_>, asked: bool)
+    requires { HasRoom 16 w.old }
+    ensures value { Wrote (cond asked (array (bitmap supported)) []) w.old w.new }
+    ensures bound { w.new.at ≤ w.old.at + 16 }
 {
     if asked {
-        return put_bitmap(reply, at, Asked::all());
+        put_bitmap(w, Asked::all());
     }
-    at
+}
+
+#[tactic(auto, using(xdr::proofs::WritingLaws::wrote_none))]
+fn put_if(w: &mut Writer<'_>, asked: bool, value: &[u8])
+    requires { HasRoom (length value.now) w.old }
+    ensures value { Wrote (cond asked value.now []) w.old w.new }
+    ensures bound { w.new.at ≤ w.old.at + length value.now }
+{
+    if asked {
+        w.bytes(value);
+    }
 }
 
 // In rising attribute number.
-fn put_values(reply: &mut [u8], at: usize, a: Asked, v: FileAttrs) -> usize
-    requires { at + 44 ≤ length reply.old }
-    ensures { Written (value_bytes a v) (length (value_bytes a v)) at reply.old reply.new result }
+fn put_values(w: &mut Writer<'_>, a: Asked, v: FileAttrs)
+    requires { HasRoom 44 w.old }
+    ensures { Wrote (value_bytes a v) w.old w.new }
 {
-    let size = put_supported_if(reply, at, a.supported_attrs);
-    let used = put_u64_if(reply, size, a.size, v.size);
-    let blksize = put_u64_if(reply, used, a.space_used, v.space_used);
-    let freed = put_u32_if(reply, blksize, a.clone_blksize, v.clone_blksize);
-    put_u64_if(reply, freed, a.space_freed, v.space_freed)
+    put_supported_if(w, a.supported_attrs);
+    put_if(w, a.size, &v.size.to_be_bytes());
+    put_if(w, a.space_used, &v.space_used.to_be_bytes());
+    put_if(w, a.clone_blksize, &v.clone_blksize.to_be_bytes());
+    put_if(w, a.space_freed, &v.space_freed.to_be_bytes());
 }
 
 // ---- the result's body: the bitmap, then the values as one opaque, whose length is known when they are written
 
-pub fn put_attrs(reply: &mut [u8], at: usize, a: Asked, v: FileAttrs) -> usize
-    requires { at + 64 ≤ length reply.old }
-    ensures { Written (attrs_reply (attrs_of v) (asks a)) (length (attrs_reply (attrs_of v) (asks a))) at reply.old reply.new result }
+#[tactic(auto, using(xdr::proofs::EncodeLaws::lengths))]
+pub fn put_attrs(w: &mut Writer<'_>, a: Asked, v: FileAttrs)
+    requires { HasRoom 64 w.old }
+    ensures { Wrote (attrs_reply (attrs_of v) (asks a)) w.old w.new }
 {
-    let head = put_bitmap(reply, at, a);
-    let values = head + 4;
-    let end = put_values(reply, values, a, v);
-    xdr::put_u32(reply, head, (end - values) as u32);
-    end
+    put_bitmap(w, a);
+    let place = w.at;
+    w.u32(0);
+    put_values(w, a, v);
+    w.set_u32(place, (w.at - place - 4) as u32);
 }

@@ -1,391 +1,254 @@
-// Readers of a request: the arguments of each layout, an operation, the header. Each asks nothing of the place it is given.
-ghost use Rattle.std.specs.Prelude.{◌≡◌};
-ghost use Rattle.xdr.specs.Decode.{got};
-ghost use Rattle.rules.specs.Operation.{handle_args, bitmap_args, read_args, write_args, region_args, clone_args, copy_args, unserved, header};
-ghost use Rattle.wire.specs.Decoded.{start_args, start_stop, of_handle, of_bitmap, of_start_args, of_read_args, of_write_args, of_region_args, of_clone_args, clone_stop, of_copy_args, of_header, ItemRead, ItemReadAt, ReadLike, RegionLike, Always};
+// Readers of a request: the arguments of each layout, an operation, the header. They read from any place, one past the end too.
+ghost use Rattle.std.specs.Prelude.{◌≡◌, IsErrOf, OnErr};
+ghost use Rattle.xdr.specs.Reading.{parsed, answered};
+ghost use Rattle.rules.specs.Fault.{args_by, fault_at};
+ghost use Rattle.rules.specs.Operation.{handle_args, bitmap_args, read_args, write_args, region_args, clone_args, copy_args, readers, find, unserved, item_at, header};
+ghost use Rattle.wire.specs.Decoded.{handle_view, bitmap_view, read_view, write_view, region_view, clone_view, copy_view, read_of, ending_of, item_of, fault_in, header_of};
+ghost use Rattle.wire.specs.declared.status.Status.{Status};
 
 use crate::operation::{
-    CloneArgs, CopyArgs, Header, Item, Operation, ReadArgs, RegionArgs, WriteArgs,
+    CloneArgs, CopyArgs, Ending, Header, Operation, ReadArgs, RegionArgs, WriteArgs,
 };
-use xdr::{Bytes, Cursor, Long, Span, Word};
+use crate::status::Status;
+use xdr::{Reader, Span};
 
-// What a reader of arguments finds: the arguments and the place after them, or the place of the fault. Stateid and offset are
-// the first of READ's, WRITE's and ALLOCATE's.
-#[derive(Clone, Copy)]
-pub enum StartAnswer {
-    Found(Span, u64, Cursor),
-    Fault(usize),
-}
-
-#[derive(Clone, Copy)]
-pub enum ReadAnswer {
-    Found(ReadArgs, Cursor),
-    Fault(usize),
-}
-
-#[derive(Clone, Copy)]
-pub enum WriteAnswer {
-    Found(WriteArgs, Cursor),
-    Fault(usize),
-}
-
-#[derive(Clone, Copy)]
-pub enum RegionAnswer {
-    Found(RegionArgs, Cursor),
-    Fault(usize),
-}
-
-#[derive(Clone, Copy)]
-pub enum CloneAnswer {
-    Found(CloneArgs, Cursor),
-    Fault(usize),
-}
-
-// The number says how many source servers follow; they are not read.
-#[derive(Clone, Copy)]
-pub enum CopyAnswer {
-    Found(CopyArgs, u32, Cursor),
-    Fault(usize),
-}
-
-#[derive(Clone, Copy)]
-pub enum HeaderRead {
-    Found(Header),
-    Fault(usize),
-}
-
-impl StartAnswer {
-    // Where the reading stopped.
-    pub fn place(self) -> usize
-        ensures { result ≡ start_stop self }
-    {
-        match self {
-            StartAnswer::Found(_, _, c) => c.at,
-            StartAnswer::Fault(p) => p,
-        }
-    }
-}
-
-impl CloneAnswer {
-    pub fn place(self) -> usize
-        ensures { result ≡ clone_stop self }
-    {
-        match self {
-            CloneAnswer::Found(_, c) => c.at,
-            CloneAnswer::Fault(p) => p,
-        }
-    }
-}
-
-pub fn handle_args(s: &[u8], c: Cursor) -> Bytes
-    ensures { of_handle s.now result ≡ handle_args.read s.now c.at }
+#[tactic(auto, unfolding(xdr::specs::Decode::opaque_up_to))]
+fn handle_args(r: &mut Reader<'_>) -> Result<Span, Status>
+    ensures value { answered (handle_view r.old.bytes.now) result r.new.at ≡ handle_args.read r.old.bytes.now r.old.at }
+    ensures status { OnErr result (IsErrOf result Status.BadXdr) }
+    ensures bytes { r.new.bytes ≡ r.old.bytes }
 {
-    c.opaque(s, Operation::MAX_HANDLE)
+    let Some(handle) = r.opaque(Operation::MAX_HANDLE) else {
+        return Err(Status::BadXdr);
+    };
+    Ok(handle)
 }
 
 // The span has the words.
-pub fn bitmap_args(s: &[u8], c: Cursor) -> Bytes
-    ensures { of_bitmap s.now result ≡ bitmap_args.read s.now c.at }
+#[tactic(auto, unfolding(xdr::specs::Decode::array_up_to))]
+fn bitmap_args(r: &mut Reader<'_>) -> Result<Span, Status>
+    ensures value { answered (bitmap_view r.old.bytes.now) result r.new.at ≡ bitmap_args.read r.old.bytes.now r.old.at }
+    ensures status { OnErr result (IsErrOf result Status.BadXdr) }
+    ensures bytes { r.new.bytes ≡ r.old.bytes }
 {
-    c.array(s, Operation::MAX_BITMAP)
+    let Some(words) = r.array(Operation::MAX_BITMAP) else {
+        return Err(Status::BadXdr);
+    };
+    Ok(words)
 }
 
-fn start_args(s: &[u8], c: Cursor) -> StartAnswer
-    ensures { of_start_args s.now result ≡ start_args.read s.now c.at }
+#[tactic(auto, unfolding(xdr::specs::Decode::fixed))]
+fn read_args(r: &mut Reader<'_>) -> Result<ReadArgs, Status>
+    ensures value { answered (read_view r.old.bytes.now) result r.new.at ≡ read_args.read r.old.bytes.now r.old.at }
+    ensures status { OnErr result (IsErrOf result Status.BadXdr) }
+    ensures bytes { r.new.bytes ≡ r.old.bytes }
 {
-    let i = c.fixed(s, Operation::STATEID);
-    let Bytes::Found(stateid, c2) = i else {
-        return StartAnswer::Fault(i.place());
+    let Some(stateid) = r.fixed(Operation::STATEID) else {
+        return Err(Status::BadXdr);
     };
-    let o = c2.long(s);
-    let Long::Value(offset, next) = o else {
-        return StartAnswer::Fault(o.place());
+    let Some(offset) = r.u64() else {
+        return Err(Status::BadXdr);
     };
-    StartAnswer::Found(stateid, offset, next)
-}
-
-pub fn read_args(s: &[u8], c: Cursor) -> ReadAnswer
-    ensures { of_read_args s.now result ≡ read_args.read s.now c.at }
-{
-    let i = start_args(s, c);
-    let StartAnswer::Found(stateid, offset, c2) = i else {
-        return ReadAnswer::Fault(i.place());
+    let Some(count) = r.u32() else {
+        return Err(Status::BadXdr);
     };
-    let n = c2.word(s);
-    let Word::Value(count, next) = n else {
-        return ReadAnswer::Fault(n.place());
-    };
-    ReadAnswer::Found(
-        ReadArgs {
-            stateid,
-            offset,
-            count,
-        },
-        next,
-    )
-}
-
-pub fn write_args(s: &[u8], c: Cursor) -> WriteAnswer
-    ensures { of_write_args s.now result ≡ write_args.read s.now c.at }
-{
-    let i = start_args(s, c);
-    let StartAnswer::Found(stateid, offset, c2) = i else {
-        return WriteAnswer::Fault(i.place());
-    };
-    let h = c2.up_to(s, Operation::MAX_STABLE);
-    let Word::Value(stable, c3) = h else {
-        return WriteAnswer::Fault(h.place());
-    };
-    let d = c3.opaque(s, Cursor::MAX_LENGTH);
-    let Bytes::Found(data, next) = d else {
-        return WriteAnswer::Fault(d.place());
-    };
-    WriteAnswer::Found(
-        WriteArgs {
-            stateid,
-            offset,
-            stable,
-            data,
-        },
-        next,
-    )
-}
-
-pub fn region_args(s: &[u8], c: Cursor) -> RegionAnswer
-    ensures { of_region_args s.now result ≡ region_args.read s.now c.at }
-{
-    let i = start_args(s, c);
-    let StartAnswer::Found(stateid, offset, c2) = i else {
-        return RegionAnswer::Fault(i.place());
-    };
-    let n = c2.long(s);
-    let Long::Value(length, next) = n else {
-        return RegionAnswer::Fault(n.place());
-    };
-    RegionAnswer::Found(
-        RegionArgs {
-            stateid,
-            offset,
-            length,
-        },
-        next,
-    )
-}
-
-pub fn clone_args(s: &[u8], c: Cursor) -> CloneAnswer
-    ensures { of_clone_args s.now result ≡ clone_args.read s.now c.at }
-{
-    let i = c.fixed(s, Operation::STATEID);
-    let Bytes::Found(source, c2) = i else {
-        return CloneAnswer::Fault(i.place());
-    };
-    let j = c2.fixed(s, Operation::STATEID);
-    let Bytes::Found(target, c3) = j else {
-        return CloneAnswer::Fault(j.place());
-    };
-    let o = c3.long(s);
-    let Long::Value(from, c4) = o else {
-        return CloneAnswer::Fault(o.place());
-    };
-    let p = c4.long(s);
-    let Long::Value(to, c5) = p else {
-        return CloneAnswer::Fault(p.place());
-    };
-    let n = c5.long(s);
-    let Long::Value(count, next) = n else {
-        return CloneAnswer::Fault(n.place());
-    };
-    CloneAnswer::Found(
-        CloneArgs {
-            source,
-            target,
-            from,
-            to,
-            count,
-        },
-        next,
-    )
-}
-
-pub fn copy_args(s: &[u8], c: Cursor) -> CopyAnswer
-    ensures { of_copy_args s.now result ≡ copy_args.read s.now c.at }
-{
-    let k = clone_args(s, c);
-    let CloneAnswer::Found(clone, c2) = k else {
-        return CopyAnswer::Fault(k.place());
-    };
-    let b = c2.up_to(s, Cursor::MAX_BOOL);
-    let Word::Value(consecutive, c3) = b else {
-        return CopyAnswer::Fault(b.place());
-    };
-    let d = c3.up_to(s, Cursor::MAX_BOOL);
-    let Word::Value(synchronous, c4) = d else {
-        return CopyAnswer::Fault(d.place());
-    };
-    let n = c4.word(s);
-    let Word::Value(servers, next) = n else {
-        return CopyAnswer::Fault(n.place());
-    };
-    CopyAnswer::Found(
-        CopyArgs {
-            clone,
-            consecutive,
-            synchronous,
-        },
-        servers,
-        next,
-    )
-}
-
-// The operations with arguments, by their layouts: what stands at `c`, behind the number.
-fn get_attr_item(s: &[u8], c: Cursor) -> Item
-    ensures { ItemRead s.now (got 9 c.at) result }
-{
-    match bitmap_args(s, c) {
-        Bytes::Found(d, next) => Item::Op(Operation::GetAttr(d), next),
-        Bytes::Fault(p) => Item::Fault(Operation::GETATTR, p),
-    }
-}
-
-fn put_fh_item(s: &[u8], c: Cursor) -> Item
-    ensures { ItemRead s.now (got 22 c.at) result }
-{
-    match handle_args(s, c) {
-        Bytes::Found(h, next) => Item::Op(Operation::PutFh(h), next),
-        Bytes::Fault(p) => Item::Fault(Operation::PUTFH, p),
-    }
-}
-
-// READ, READ_PLUS and SEEK.
-fn read_item(s: &[u8], n: u32, c: Cursor) -> Item
-    requires { ReadLike n }
-    ensures { ItemRead s.now (got n c.at) result }
-{
-    match read_args(s, c) {
-        ReadAnswer::Found(a, next) => match n {
-            Operation::READ => Item::Op(Operation::Read(a), next),
-            Operation::READ_PLUS => Item::Op(Operation::ReadPlus(a), next),
-            _ => Item::Op(Operation::Seek(a), next),
-        },
-        ReadAnswer::Fault(p) => Item::Fault(n, p),
-    }
-}
-
-// ALLOCATE and DEALLOCATE.
-fn region_item(s: &[u8], n: u32, c: Cursor) -> Item
-    requires { RegionLike n }
-    ensures { ItemRead s.now (got n c.at) result }
-{
-    match region_args(s, c) {
-        RegionAnswer::Found(a, next) => match n {
-            Operation::ALLOCATE => Item::Op(Operation::Allocate(a), next),
-            _ => Item::Op(Operation::Deallocate(a), next),
-        },
-        RegionAnswer::Fault(p) => Item::Fault(n, p),
-    }
-}
-
-fn write_item(s: &[u8], c: Cursor) -> Item
-    ensures { ItemRead s.now (got 38 c.at) result }
-{
-    match write_args(s, c) {
-        WriteAnswer::Found(a, next) => Item::Op(Operation::Write(a), next),
-        WriteAnswer::Fault(p) => Item::Fault(Operation::WRITE, p),
-    }
-}
-
-// A COPY with source servers is not supported.
-fn copy_item(s: &[u8], c: Cursor) -> Item
-    ensures { ItemRead s.now (got 60 c.at) result }
-{
-    match copy_args(s, c) {
-        CopyAnswer::Found(a, servers, next) => {
-            if servers != 0 {
-                return Item::Bad(Operation::COPY, Operation::NOTSUPP);
-            }
-            Item::Op(Operation::Copy(a), next)
-        }
-        CopyAnswer::Fault(p) => Item::Fault(Operation::COPY, p),
-    }
-}
-
-fn clone_item(s: &[u8], c: Cursor) -> Item
-    ensures { ItemRead s.now (got 71 c.at) result }
-{
-    match clone_args(s, c) {
-        CloneAnswer::Found(a, next) => Item::Op(Operation::Clone(a), next),
-        CloneAnswer::Fault(p) => Item::Fault(Operation::CLONE, p),
-    }
-}
-
-// A number that is not served.
-fn unserved_item(n: u32) -> Item
-    ensures { Always result (unserved n) }
-{
-    if n == Operation::SEQUENCE {
-        return Item::Bad(n, Operation::SEQUENCE_POS);
-    }
-    if n < Operation::LOWEST {
-        return Item::Bad(Operation::ILLEGAL, Operation::OP_ILLEGAL);
-    }
-    if Operation::HIGHEST < n {
-        return Item::Bad(Operation::ILLEGAL, Operation::OP_ILLEGAL);
-    }
-    Item::Bad(n, Operation::NOTSUPP)
-}
-
-// Operation `n`, whose arguments stand at `c`.
-fn numbered_item(s: &[u8], n: u32, c: Cursor) -> Item
-    ensures { ItemRead s.now (got n c.at) result }
-{
-    match n {
-        Operation::GETATTR => get_attr_item(s, c),
-        Operation::GETFH => Item::Op(Operation::GetFh, c),
-        Operation::PUTFH => put_fh_item(s, c),
-        Operation::READ => read_item(s, n, c),
-        Operation::RESTOREFH => Item::Op(Operation::RestoreFh, c),
-        Operation::SAVEFH => Item::Op(Operation::SaveFh, c),
-        Operation::WRITE => write_item(s, c),
-        Operation::ALLOCATE => region_item(s, n, c),
-        Operation::COPY => copy_item(s, c),
-        Operation::DEALLOCATE => region_item(s, n, c),
-        Operation::READ_PLUS => read_item(s, n, c),
-        Operation::SEEK => read_item(s, n, c),
-        Operation::CLONE => clone_item(s, c),
-        _ => unserved_item(n),
-    }
-}
-
-// The operation that stands at `c`.
-pub fn item(s: &[u8], c: Cursor) -> Item
-    ensures { ItemReadAt s.now c.at result }
-{
-    match c.word(s) {
-        Word::Value(n, next) => numbered_item(s, n, next),
-        Word::Fault(p) => Item::Fault(Operation::ILLEGAL, p),
-    }
-}
-
-// The header of a request, from its first byte on.
-pub fn header(s: &[u8]) -> HeaderRead
-    ensures { of_header s.now result ≡ header s.now 0 }
-{
-    let t = Cursor::new(0).opaque(s, Operation::MAX_TAG);
-    let Bytes::Found(tag, c) = t else {
-        return HeaderRead::Fault(t.place());
-    };
-    let m = c.word(s);
-    let Word::Value(minor, c2) = m else {
-        return HeaderRead::Fault(m.place());
-    };
-    let n = c2.word(s);
-    let Word::Value(ops, next) = n else {
-        return HeaderRead::Fault(n.place());
-    };
-    HeaderRead::Found(Header {
-        tag,
-        minor,
-        ops,
-        next,
+    Ok(ReadArgs {
+        stateid,
+        offset,
+        count,
     })
+}
+
+#[tactic(auto, unfolding(xdr::specs::Decode::fixed, xdr::specs::Decode::opaque_up_to))]
+fn write_args(r: &mut Reader<'_>) -> Result<WriteArgs, Status>
+    ensures value { answered (write_view r.old.bytes.now) result r.new.at ≡ write_args.read r.old.bytes.now r.old.at }
+    ensures status { OnErr result (IsErrOf result Status.BadXdr) }
+    ensures bytes { r.new.bytes ≡ r.old.bytes }
+{
+    let Some(stateid) = r.fixed(Operation::STATEID) else {
+        return Err(Status::BadXdr);
+    };
+    let Some(offset) = r.u64() else {
+        return Err(Status::BadXdr);
+    };
+    let Some(stable) = r.up_to(Operation::MAX_STABLE) else {
+        return Err(Status::BadXdr);
+    };
+    let Some(data) = r.opaque(Reader::MAX_LENGTH) else {
+        return Err(Status::BadXdr);
+    };
+    Ok(WriteArgs {
+        stateid,
+        offset,
+        stable,
+        data,
+    })
+}
+
+#[tactic(auto, unfolding(xdr::specs::Decode::fixed))]
+fn region_args(r: &mut Reader<'_>) -> Result<RegionArgs, Status>
+    ensures value { answered (region_view r.old.bytes.now) result r.new.at ≡ region_args.read r.old.bytes.now r.old.at }
+    ensures status { OnErr result (IsErrOf result Status.BadXdr) }
+    ensures bytes { r.new.bytes ≡ r.old.bytes }
+{
+    let Some(stateid) = r.fixed(Operation::STATEID) else {
+        return Err(Status::BadXdr);
+    };
+    let Some(offset) = r.u64() else {
+        return Err(Status::BadXdr);
+    };
+    let Some(length) = r.u64() else {
+        return Err(Status::BadXdr);
+    };
+    Ok(RegionArgs {
+        stateid,
+        offset,
+        length,
+    })
+}
+
+#[tactic(auto, unfolding(xdr::specs::Decode::fixed))]
+fn clone_args(r: &mut Reader<'_>) -> Result<CloneArgs, Status>
+    ensures value { answered (clone_view r.old.bytes.now) result r.new.at ≡ clone_args.read r.old.bytes.now r.old.at }
+    ensures status { OnErr result (IsErrOf result Status.BadXdr) }
+    ensures bytes { r.new.bytes ≡ r.old.bytes }
+{
+    let Some(source) = r.fixed(Operation::STATEID) else {
+        return Err(Status::BadXdr);
+    };
+    let Some(target) = r.fixed(Operation::STATEID) else {
+        return Err(Status::BadXdr);
+    };
+    let Some(from) = r.u64() else {
+        return Err(Status::BadXdr);
+    };
+    let Some(to) = r.u64() else {
+        return Err(Status::BadXdr);
+    };
+    let Some(count) = r.u64() else {
+        return Err(Status::BadXdr);
+    };
+    Ok(CloneArgs {
+        source,
+        target,
+        from,
+        to,
+        count,
+    })
+}
+
+// The arguments, and how many source servers follow; these are not read.
+fn copy_args(r: &mut Reader<'_>) -> Result<(CopyArgs, u32), Status>
+    ensures value { answered (copy_view r.old.bytes.now) result r.new.at ≡ copy_args.read r.old.bytes.now r.old.at }
+    ensures status { OnErr result (IsErrOf result Status.BadXdr) }
+    ensures bytes { r.new.bytes ≡ r.old.bytes }
+{
+    let clone = clone_args(r)?;
+    let Some(consecutive) = r.up_to(1) else {
+        return Err(Status::BadXdr);
+    };
+    let Some(synchronous) = r.up_to(1) else {
+        return Err(Status::BadXdr);
+    };
+    let Some(servers) = r.u32() else {
+        return Err(Status::BadXdr);
+    };
+    let args = CopyArgs {
+        clone,
+        consecutive,
+        synchronous,
+    };
+    Ok((args, servers))
+}
+
+// A COPY. One with source servers is not supported.
+fn copy(r: &mut Reader<'_>) -> Result<Operation, Status>
+    ensures value { read_of r.old.bytes.now result r.new.at ≡ args_by (find 60 readers) r.old.bytes.now r.old.at }
+    ensures bytes { r.new.bytes ≡ r.old.bytes }
+{
+    let (args, servers) = copy_args(r)?;
+    if servers != 0 {
+        return Err(Status::NotSupported);
+    }
+    Ok(Operation::Copy(args))
+}
+
+// The operation of a number, whose arguments come next.
+fn arguments(r: &mut Reader<'_>, number: u32) -> Result<Operation, Status>
+    ensures value { read_of r.old.bytes.now result r.new.at ≡ args_by (find number readers) r.old.bytes.now r.old.at }
+    ensures bytes { r.new.bytes ≡ r.old.bytes }
+{
+    match number {
+        Operation::GETATTR => Ok(Operation::GetAttr(bitmap_args(r)?)),
+        Operation::GETFH => Ok(Operation::GetFh),
+        Operation::PUTFH => Ok(Operation::PutFh(handle_args(r)?)),
+        Operation::READ => Ok(Operation::Read(read_args(r)?)),
+        Operation::RESTOREFH => Ok(Operation::RestoreFh),
+        Operation::SAVEFH => Ok(Operation::SaveFh),
+        Operation::WRITE => Ok(Operation::Write(write_args(r)?)),
+        Operation::ALLOCATE => Ok(Operation::Allocate(region_args(r)?)),
+        Operation::COPY => copy(r),
+        Operation::DEALLOCATE => Ok(Operation::Deallocate(region_args(r)?)),
+        Operation::READ_PLUS => Ok(Operation::ReadPlus(read_args(r)?)),
+        Operation::SEEK => Ok(Operation::Seek(read_args(r)?)),
+        Operation::CLONE => Ok(Operation::Clone(clone_args(r)?)),
+        _ => Err(Status::NotSupported),
+    }
+}
+
+// What ends the compound at an operation that is not served.
+fn unserved_ending(number: u32) -> Ending
+    ensures { ending_of result ≡ unserved number }
+{
+    if number == Operation::SEQUENCE {
+        return Ending {
+            number,
+            status: Status::SequencePosition,
+        };
+    }
+    if number < Operation::LOWEST || Operation::HIGHEST < number {
+        return Ending {
+            number: Operation::ILLEGAL,
+            status: Status::OpIllegal,
+        };
+    }
+    Ending {
+        number,
+        status: Status::NotSupported,
+    }
+}
+
+// The next operation. Where its bytes are wrong the status is BADXDR, and the reader is at the place of the fault.
+#[tactic(auto, using(crate::proofs::ItemLaws::item_by), unfolding(rules::specs::Operation::item_at, rules::specs::Fault::fault_at))]
+pub fn item(r: &mut Reader<'_>) -> Result<Operation, Ending>
+    ensures value { item_of r.old.bytes.now result r.new.at ≡ item_at r.old.bytes.now r.old.at }
+    ensures fault { fault_in result r.new.at ≡ fault_at r.old.bytes.now r.old.at }
+    ensures bytes { r.new.bytes ≡ r.old.bytes }
+{
+    let Some(number) = r.u32() else {
+        return Err(Ending {
+            number: Operation::ILLEGAL,
+            status: Status::BadXdr,
+        });
+    };
+    match arguments(r, number) {
+        Ok(operation) => Ok(operation),
+        Err(Status::BadXdr) => Err(Ending {
+            number,
+            status: Status::BadXdr,
+        }),
+        Err(_) => Err(unserved_ending(number)),
+    }
+}
+
+// The header of a request. The first operation comes next.
+#[tactic(auto, unfolding(rules::specs::Operation::header, xdr::specs::Decode::opaque_up_to))]
+pub fn header(r: &mut Reader<'_>) -> Option<Header>
+    ensures value { parsed (header_of r.old.bytes.now) result r.new.at ≡ header r.old.bytes.now r.old.at }
+    ensures bytes { r.new.bytes ≡ r.old.bytes }
+{
+    let tag = r.opaque(Operation::MAX_TAG)?;
+    let minor = r.u32()?;
+    let ops = r.u32()?;
+    Some(Header { tag, minor, ops })
 }

@@ -2,17 +2,15 @@
 #![tactic(auto)]
 
 mod attrs;
-mod bytes;
 mod decode;
 mod operation;
 mod result;
 mod status;
 
 pub use attrs::{Asked, FileAttrs, asked_in, put_attrs};
-pub use bytes::same_bytes;
-pub use decode::{HeaderRead, header, item};
+pub use decode::{header, item};
 pub use operation::{
-    CloneArgs, CopyArgs, Header, Item, Operation, ReadArgs, RegionArgs, WriteArgs,
+    CloneArgs, CopyArgs, Ending, Header, Operation, ReadArgs, RegionArgs, WriteArgs,
 };
 pub use result::{put_copied, put_data_head, put_hole, put_result, put_sought, put_written};
 pub use status::Status;

@@ -3,26 +3,25 @@ ghost use Rattle.std.specs.Prelude.{◌≡◌, List, ℕ};
 ghost use Rattle.rules.specs.Operation.{op_number};
 ghost use Rattle.wire.specs.Decoded.{meaning};
 
-use xdr::{Cursor, Span};
+use crate::status::Status;
+use xdr::Span;
 
-// The header as read. The first operation stands at `next`.
-#[derive(Clone, Copy)]
+#[derive(Clone, Copy, Debug, PartialEq, Eq)]
 pub struct Header {
     pub tag: Span,
     pub minor: u32,
     pub ops: u32,
-    pub next: Cursor,
 }
 
 // Of READ and READ_PLUS; of SEEK too, where `count` is the kind that is asked for.
-#[derive(Clone, Copy)]
+#[derive(Clone, Copy, Debug, PartialEq, Eq)]
 pub struct ReadArgs {
     pub stateid: Span,
     pub offset: u64,
     pub count: u32,
 }
 
-#[derive(Clone, Copy)]
+#[derive(Clone, Copy, Debug, PartialEq, Eq)]
 pub struct WriteArgs {
     pub stateid: Span,
     pub offset: u64,
@@ -31,14 +30,14 @@ pub struct WriteArgs {
 }
 
 // Of ALLOCATE and DEALLOCATE.
-#[derive(Clone, Copy)]
+#[derive(Clone, Copy, Debug, PartialEq, Eq)]
 pub struct RegionArgs {
     pub stateid: Span,
     pub offset: u64,
     pub length: u64,
 }
 
-#[derive(Clone, Copy)]
+#[derive(Clone, Copy, Debug, PartialEq, Eq)]
 pub struct CloneArgs {
     pub source: Span,
     pub target: Span,
@@ -47,8 +46,9 @@ pub struct CloneArgs {
     pub count: u64,
 }
 
-// Of a COPY with no source server. The two booleans are 0 or 1.
-#[derive(Clone, Copy)]
+// Of a COPY with no source server. A request's two booleans are 0 or 1. They are numbers, since a caller who writes a request may give
+// any, and another one is refused.
+#[derive(Clone, Copy, Debug, PartialEq, Eq)]
 pub struct CopyArgs {
     pub clone: CloneArgs,
     pub consecutive: u32,
@@ -56,7 +56,7 @@ pub struct CopyArgs {
 }
 
 // GETATTR's span has the words of its bitmap, PUTFH's the handle.
-#[derive(Clone, Copy)]
+#[derive(Clone, Copy, Debug, PartialEq, Eq)]
 pub enum Operation {
     GetAttr(Span),
     GetFh,
@@ -128,15 +128,6 @@ impl Operation {
     // Bytes that a READ grants at most.
     pub const MAX_READ: u32 = 2048;
 
-    // What decoding answers.
-    pub const NOTSUPP: u32 = 10004;
-
-    pub const BADXDR: u32 = 10036;
-
-    pub const OP_ILLEGAL: u32 = 10044;
-
-    pub const SEQUENCE_POS: u32 = 10064;
-
     pub fn number(self) -> u32
         ensures { (s : List ℕ) → result ≡ op_number (meaning s self) }
     {
@@ -158,16 +149,9 @@ impl Operation {
     }
 }
 
-// What stands at a place of the request: an operation and the place after it; or the number and the status of the result that
-// ends the compound; or, where that is BADXDR, its number and the place of the fault.
-#[derive(Clone, Copy)]
-pub enum Item {
-    Op(Operation, Cursor),
-    Bad(u32, u32),
-    Fault(u32, usize),
-}
-
-impl Item {
-    // The place where there is no fault.
-    pub const NOWHERE: usize = 4294967295;
+// The result that ends the compound in place of an operation's own.
+#[derive(Clone, Copy, Debug, PartialEq, Eq)]
+pub struct Ending {
+    pub number: u32,
+    pub status: Status,
 }

@@ -12,12 +12,15 @@ use lib.ListN.{length, get_or, take, drop, get_or-eq_default}
 use lib.Dec.{leb}
 use lib.Seq.{take-suc, take_all, take_at, drop_at, drop-drop}
 use Rattle.xdr.specs.Bytes.{part_of, Written}
+use Rattle.xdr.specs.Writing.{Wrote}
+use Rattle.xdr.specs.declared.writer.Writer.{Writer}
 use Rattle.xdr.specs.Encode.{u32, concat_map, array}
 use Rattle.xdr.specs.Decode.{Parsed, got, fault, value, number, fours, numbers, array_at, array_up_to}
 use Rattle.xdr.specs.Layout.{every, is_word, uints}
 use Rattle.xdr.proofs.BoolLaws.{and_left, and_right}
 use Rattle.xdr.proofs.EncodeLaws.{length-u32, value-be, numbers-length, length-array}
 use Rattle.xdr.proofs.BytesLaws.{written_then}
+use Rattle.xdr.proofs.WritingLaws.{wrote_then}
 use Rattle.xdr.proofs.DecodeLaws.{there, missing, number-there, number-missing, array-numbers}
 use Rattle.xdr.proofs.RoundTrip.{Stands, stands-first, stands-rest, stands-within, bounded-back}
 use Rattle.xdr.proofs.LayoutLaws.{ReadsBack, at_most, is_word_lem}
@@ -43,6 +46,14 @@ module _ (ns : List ℕ) {at : ℕ} {x : List ℕ} where
   numbers-end {i = i} h l w =
       let e : i ≡ length ns = omega arith in
       rw (take_all i ns l, e) at w
+
+-- one more of the numbers
+pub wrote_numbers : (ns : List ℕ) (i : ℕ) {x y z : Writer} → i < length ns → Wrote (concat_map u32 (take i ns)) x y → Wrote (u32 (get_or ns i 0)) y z
+    → Wrote (concat_map u32 (take (i + 1) ns)) x z
+wrote_numbers ns i h f g =
+    let one : concat_map u32 (take (i + 1) ns) ≡ concat_map u32 (take i ns) ++ u32 (get_or ns i 0)
+    = rw (add-one i, take-suc ns i 0 h, concat_map_append u32 (take i ns) (get_or ns i 0 ∷ [])) (rw append-nil) in
+    rw one (wrote_then f g)
 
 -- ---- read
 

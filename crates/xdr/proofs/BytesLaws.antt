@@ -7,21 +7,9 @@ use native.Mathlib.Numerals.{add-one, add-two, add-three}
 use native.Mathlib.Omega.{arith}
 use lib.ListN.{length, get_or, set, take, drop, replicate, length-append, length-take, length-drop, get_or-append, drop_of_length-le, length-replicate, length-set, take-append-drop}
 use borrow.Author.Fill.{fill_none, fill_more}
-use lib.Seq.{take-append-le, take-take, drop-append_seam, get_or-append-add, get_or-take, get_or-drop, length-take-le, take_all, take-nil, drop-drop, take-append-add, drop-append-add, sets-eq, take-append_seam, take-suc, take-suc-set}
+use lib.Seq.{take-append-le, take-take, drop-append_seam, get_or-append-add, get_or-take, get_or-drop, length-take-le, take_all, drop-drop, take-append-add, drop-append-add, sets-eq, take-append_seam, take-suc, take-suc-set, take_at, drop_at}
 use borrow.Rule.Slice.PartMut as P
-use Rattle.xdr.specs.Bytes.{part_of, splice, Written}
-
--- ---- a part that is taken
-
-pub part_none : (s : List ℕ) (start len : ℕ) → length s < start → part_of s (record { start = start; len = len }) ≡ []
-unfolding part_of
-part_none s start len h =
-    let k : length s ≤ start = omega arith in
-    rw (drop_of_length-le s k) (take-nil len)
-
-pub part-rest : (s : List ℕ) (start len : ℕ) → length s - start ≤ len → part_of s (record { start = start; len = len }) ≡ drop start s
-unfolding part_of
-part-rest s start len h = take_all len (drop start s) (simp length-drop h)
+use Rattle.xdr.specs.Bytes.{splice, Written}
 
 -- ---- a part that is stored over
 
@@ -51,6 +39,38 @@ splice-above m at bs j h l =
     ∙ get_or-append-add bs (drop (at + length bs) m) t 0
     ∙ get_or-drop (at + length bs) m t 0
     ∙ ap (λ (n : ℕ). get_or m n 0) (add-sub_of_le l)
+
+-- what stands before the end of a stored part, and behind it
+pub take_spliced : (m : List ℕ) (at : ℕ) (bs : List ℕ) → at ≤ length m → take (at + length bs) (splice m at bs) ≡ take at m ++ bs
+unfolding splice
+take_spliced m at bs h =
+    ap (λ (n : ℕ). take (n + length bs) (splice m at bs)) (sym (length-take-le at m h))
+    ∙ take-append-add (take at m) (bs ++ drop (at + length bs) m) (length bs)
+    ∙ ap (λ (l : List ℕ). take at m ++ l) (take-append_seam bs (drop (at + length bs) m))
+
+pub drop_spliced : (m : List ℕ) (at : ℕ) (bs : List ℕ) → at ≤ length m → drop (at + length bs) (splice m at bs) ≡ drop (length bs) (drop at m)
+unfolding splice
+drop_spliced m at bs h =
+    ap (λ (n : ℕ). drop (n + length bs) (splice m at bs)) (sym (length-take-le at m h))
+    ∙ drop-append-add (take at m) (bs ++ drop (at + length bs) m) (length bs)
+    ∙ drop-append_seam bs (drop (at + length bs) m)
+    ∙ sym (drop-drop (length bs) at m)
+
+-- a splice over the front of another
+pub splice_over : (m : List ℕ) (at : ℕ) (a b c : List ℕ) → at ≤ length m → length b ≡ length a → splice (splice m at (a ++ c)) at b ≡ splice m at (b ++ c)
+unfolding splice
+splice_over m at a b c h e =
+    let t = take at m in
+    let r = drop (at + length (a ++ c)) m in
+    let k : length t ≡ at = length-take-le at m h in
+    let front : take at (t ++ ((a ++ c) ++ r)) ≡ t = take_at t ((a ++ c) ++ r) at k in
+    let back : drop (at + length b) (t ++ ((a ++ c) ++ r)) ≡ c ++ r
+    = ap (λ (n : ℕ). drop (n + length b) (t ++ ((a ++ c) ++ r))) (sym k)
+    ∙ drop-append-add t ((a ++ c) ++ r) (length b)
+    ∙ ap (drop (length b)) (append_assoc a c r)
+    ∙ drop_at a (c ++ r) (length b) (sym e) in
+    let size : length (a ++ c) ≡ length (b ++ c) = omega (arith, length-append a c, length-append b c, e) in
+    rw (front, back) (rw size (ap (λ (l : List ℕ). t ++ l) (sym (append_assoc b c (drop (at + length (b ++ c)) m)))))
 
 -- two splices, the second behind the first, are one
 pub splice-splice : (m : List ℕ) (at : ℕ) (a b : List ℕ) → at ≤ length m → splice (splice m at a) (at + length a) b ≡ splice m at (a ++ b)

@@ -138,6 +138,13 @@ unfolding padded
 pad-on a s at (suc n) k h e = rw (lt-ltb at (length s) h, eq-eqb (get_or s at 0) 0 e, sub-one (suc n))
 pad-on a s at zero k h e = absurd (lt_irrefl 0 k)
 
+-- one byte of it
+pub padded_step : {A : Type 0} (n : ℕ) (a : A) (s : List ℕ) (at : ℕ) → 0 < n
+    → padded n a s at ≡ cond (ltb at (length s)) (cond (eqb (get_or s at 0) 0) (padded (n - 1) a s (at + 1)) (fault at)) (fault at)
+unfolding padded
+padded_step (suc n) a s at h = rw (sub-one (suc n)) refl
+padded_step zero a s at h = absurd (lt_irrefl 0 h)
+
 pub pad-cut : {A : Type 0} (a : A) (s : List ℕ) (at n : ℕ) → 0 < n → length s ≤ at → padded n a s at ≡ fault at
 unfolding padded
 pad-cut a s at (suc n) k h = rw (le-ltb at (length s) h)

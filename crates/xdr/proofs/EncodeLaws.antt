@@ -28,6 +28,8 @@ pub length-bool : (b : Bool) → length (bool b) ≡ 4
 unfolding bool
 length-bool b = length-u32 (cond b 1 0)
 
+pub ruleset lengths = (length-u32, length-u64, length-bool)
+
 pub length-opaque : (d : List ℕ) → length (opaque d) ≡ opaque_size (length d)
 unfolding opaque u32
 length-opaque d = simp (length-append, length-replicate, length-be) (omega arith)
@@ -39,6 +41,8 @@ numbers-length (n ∷ ns) = rw (length-append (u32 n) (concat_map u32 ns), lengt
 pub length-array : (ns : List ℕ) → length (array ns) ≡ 4 + 4 * length ns
 unfolding array
 length-array ns = rw (length-append (u32 (length ns)) (concat_map u32 ns), length-u32 (length ns), numbers-length ns)
+
+pub ruleset long_lengths = (length-opaque, length-array)
 
 pub opaque-fours : (d : List ℕ) → length (opaque d) % 4 ≡ 0
 opaque-fours d = rw (length-opaque d) (omega arith)

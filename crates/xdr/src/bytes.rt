@@ -3,27 +3,24 @@ ghost use Rattle.std.specs.Prelude.{◌≡◌, length, replicate};
 ghost use Rattle.xdr.specs.Part.{PartPromise};
 
 // Where bytes stand in a slice: `len` of them from `start` on.
-#[derive(Clone, Copy)]
+#[derive(Clone, Copy, Debug, PartialEq, Eq)]
 pub struct Span {
     pub start: usize,
     pub len: usize,
 }
 
 // The bytes of a span, as far as the slice has them.
+#[tactic(auto, unfolding(crate::specs::Bytes::part_of))]
 pub fn part(s: &[u8], d: Span) -> &[u8]
     ensures { PartPromise s.entry d result }
 {
-    let start = d.start;
-    let len = d.len;
-    let n = s.len();
-    if n < start {
-        return &s[0..0];
+    if s.len() < d.start {
+        return &s[..0];
     }
-    if n - start < len {
-        return &s[start..];
+    if s.len() - d.start < d.len {
+        return &s[d.start..];
     }
-    let end = start + len;
-    &s[start..end]
+    &s[d.start..d.start + d.len]
 }
 
 // Copies `src` over `dst`, which is as long.

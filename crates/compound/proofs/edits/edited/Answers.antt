@@ -10,7 +10,6 @@ pub returns : goal.returns
 returns c =
     rw c.if-not-done.false (record {
       status_is = refl;
-      current_is = refl;
-      saved_is = refl;
+      handles_are = refl;
       written = written_then (omega (arith, c.requires.1)) c.put_result-body.ensures c.put_edit-at.ensures;
     })

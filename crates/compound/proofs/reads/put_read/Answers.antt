@@ -10,14 +10,14 @@ bounds-sizes-f c = file-listed c.requires.shaped c.requires.file
 
 pub returns-then-m-eq0 : goal.returns-then-m-eq0
 returns-then-m-eq0 c =
-    read-written c.requires _ _ c.grant.ensures c.reaches.ensures c.grant-2.ensures c.below-m.ensures c.put_bool-data.ensures
+    read-written c.requires _ _ c.grant.ensures c.reaches.ensures c.grant-2.ensures (rw c.saturating_sub.ensures at c.min-m.ensures) c.put_bool-data.ensures
     (opaque-none c.if-m-eq0.true _ _ _ _ c.put_u32.ensures)
 
 pub put_file_bytes-requires : goal.put_file_bytes-requires
 put_file_bytes-requires c =
-    bytes_fit c.requires _ _ c.grant-2.ensures c.below-m.ensures c.if-m-eq0.false c.put_bool-data.ensures
+    bytes_fit c.requires _ _ c.grant-2.ensures (rw c.saturating_sub.ensures at c.min-m.ensures) c.if-m-eq0.false c.put_bool-data.ensures
 
 pub returns : goal.returns
 returns c =
-    read-written c.requires _ _ c.grant.ensures c.reaches.ensures c.grant-2.ensures c.below-m.ensures c.put_bool-data.ensures
+    read-written c.requires _ _ c.grant.ensures c.reaches.ensures c.grant-2.ensures (rw c.saturating_sub.ensures at c.min-m.ensures) c.put_bool-data.ensures
     (c.put_file_bytes.ensures c.args.sizes.now)

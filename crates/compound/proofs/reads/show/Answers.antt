@@ -7,9 +7,9 @@ use Rattle.compound.proofs.reads.show.Goals as goal
 pub put_view-at-requires : goal.put_view-at-requires
 put_view-at-requires c =
     record {
-      shows = shows-there c.args.p c.requires.known c.file_of.ensures c.requires.room c.put_result-body.ensures;
-      counted = c.requires.counted;
-      blocks = c.requires.blocks;
+      shows = shows-there c.requires.runs.known c.requires.file c.requires.runs.room c.put_result-body.ensures;
+      counted = c.requires.runs.counted;
+      blocks = c.requires.runs.blocks;
     }
 
 pub returns : goal.returns
@@ -18,9 +18,8 @@ returns c =
     record {
       wrote = record {
         status_is = refl;
-        current_is = refl;
-        saved_is = refl;
-        written = written_then (omega (arith, c.requires.room)) c.put_result-body.ensures (rw c.file_of.ensures at w.written);
+        handles_are = refl;
+        written = written_then (omega (arith, c.requires.runs.room)) c.put_result-body.ensures w.written;
       };
       table = w.table;
     }

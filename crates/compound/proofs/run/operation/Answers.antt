@@ -1,52 +1,55 @@
-use mathlib.Core.Path.{refl, sym, ap, ◌∙◌}
+use mathlib.Core.Path.{refl, ap}
 use native.Mathlib.Omega.{arith}
-use Rattle.rules.specs.Store.{Store}
-use Rattle.tables.specs.Lent.{geometry_of}
+use Rattle.tables.specs.Lent.{geometry_of, tables}
+use Rattle.rules.proofs.GeometryLaws.{lengths}
 use Rattle.wire.specs.Decoded.{meaning}
-use Rattle.compound.specs.Runner.{config_of}
-use Rattle.compound.specs.Does.{does_of}
-use Rattle.compound.proofs.RunLaws.{named, edit-known, edit-applies, region-small, answers-failed, answers-sets, answers-shows, answers-edits}
+use Rattle.compound.specs.Runner.{file_in, config_of}
+use Rattle.compound.proofs.RunLaws.{checked-error, checked-clear, checked-does, edit-applies, region-small, answers-failed, answers-sets, answers-shows, answers-edits}
 use Rattle.compound.proofs.run.operation.Goals as goal
 
-pub error-e-requires : goal.error-e-requires
-error-e-requires c = named c.args.p c.requires.known
+pub invariant_of-context : goal.invariant_of-context
+invariant_of-context c =
+    let k = c.requires.known in
+    record {
+      good = k.shaped.geometry;
+      files = (lengths (geometry_of c.args.c.geometry) (tables c.args.sizes.now c.args.words.now c.args.mem.now) k.shaped.lengths).files;
+      current = λ f e. k.current f (ap file_in e);
+      saved = λ f e. k.saved f (ap file_in e);
+    }
 
-pub returns-then-e-ne-OK : goal.returns-then-e-ne-OK
-returns-then-e-ne-OK c =
-    λ next. answers-failed (config_of c.args.c) c.args.p (record { sizes = c.args.sizes.now; words = c.args.words.now; mem = c.args.mem.now }) (meaning c.args.s.now c.args.o) next (c.number-k.ensures c.args.s.now)
-    (c.error-e.ensures _ refl) c.if-e-ne-OK.true c.requires.counted c.without_body.ensures
+pub returns-in-Err : goal.returns-in-Err
+returns-in-Err c =
+    let k = checked-error c.check.ensures c.in-Err.is in
+    λ next. answers-failed (config_of c.args.c) c.args.p (tables c.args.sizes.now c.args.words.now c.args.mem.now) (meaning c.args.s.now c.args.o) next (c.number-k.ensures c.args.s.now)
+    k.0 k.1 c.requires.counted (rw c.number.ensures at c.without_body.ensures)
 
-pub does_of-requires : goal.does_of-requires
-does_of-requires c =
-    record { geometry = geometry_of c.args.c.geometry; named = named c.args.p c.requires.known; no_error = λ st same. sym c.if-e-ne-OK.false ∙ c.error-e.ensures st same }
+pub show-requires : goal.show-requires
+show-requires c = record { runs = c.requires; file = (checked-does c.check.ensures c.in-Ok-Shows.is c.in-Ok-Shows.field-0-is).1 }
 
 pub apply-done-requires : goal.apply-done-requires
 apply-done-requires c =
-    edit-applies c.args.s.now c.does_of.result c.in-Edits.is c.part.ensures.bytes_are (c.does_of.ensures.applies _ _ c.args.counts.now refl (λ st same. sym c.if-e-ne-OK.false ∙ c.error-e.ensures st same) (edit-known c.args.p c.requires))
+    let k = checked-does c.check.ensures c.in-Ok-Edits.is c.in-Ok-Edits.field-0-is in
+    rw c.part.ensures.bytes_are (edit-applies c.requires (meaning c.args.s.now c.args.o) (checked-clear c.check.ensures c.in-Ok-Edits.is) k.0 k.1)
 
 pub edited-requires : goal.edited-requires
 edited-requires c =
-    let known = edit-applies c.args.s.now c.does_of.result c.in-Edits.is c.part.ensures.bytes_are (c.does_of.ensures.applies _ _ c.args.counts.now refl (λ st same. sym c.if-e-ne-OK.false ∙ c.error-e.ensures st same) (edit-known c.args.p c.requires)) in
-    (region-small known, omega (arith, c.requires.room))
+    let k = checked-does c.check.ensures c.in-Ok-Edits.is c.in-Ok-Edits.field-0-is in
+    (region-small (edit-applies c.requires (meaning c.args.s.now c.args.o) (checked-clear c.check.ensures c.in-Ok-Edits.is) k.0 k.1), omega (arith, c.requires.room))
 
-pub returns-in-Sets : goal.returns-in-Sets
-returns-in-Sets c =
-    let st : Store = record { sizes = c.args.sizes.now; words = c.args.words.now; mem = c.args.mem.now } in
-    λ next. answers-sets (config_of c.args.c) c.args.p st (meaning c.args.s.now c.args.o) next (c.number-k.ensures c.args.s.now)
-    (sym (c.error-e.ensures st refl) ∙ c.if-e-ne-OK.false) c.requires.known c.requires.counted c.without_body-in-Sets.ensures refl
-    (ap (does_of (geometry_of c.args.c.geometry) c.args.s.now c.args.p st) (sym c.in-Sets.is) ∙ c.does_of.ensures.is _ st refl)
+pub returns-in-Ok-Sets : goal.returns-in-Ok-Sets
+returns-in-Ok-Sets c =
+    λ next. answers-sets (config_of c.args.c) c.args.p (tables c.args.sizes.now c.args.words.now c.args.mem.now) (meaning c.args.s.now c.args.o) next (c.number-k.ensures c.args.s.now)
+    (checked-clear c.check.ensures c.in-Ok-Sets.is) c.requires.known c.requires.counted c.without_body-in-Ok-Sets.ensures refl
+    (checked-does c.check.ensures c.in-Ok-Sets.is c.in-Ok-Sets.field-0-is).0
 
-pub returns-in-Shows : goal.returns-in-Shows
-returns-in-Shows c =
-    let st : Store = record { sizes = c.args.sizes.now; words = c.args.words.now; mem = c.args.mem.now } in
-    λ next. answers-shows (config_of c.args.c) c.args.p st (meaning c.args.s.now c.args.o) next (c.number-k.ensures c.args.s.now)
-    (sym (c.error-e.ensures st refl) ∙ c.if-e-ne-OK.false) c.requires.known (rw c.show.ensures.table c.requires.counted) c.show.ensures.wrote
-    (ap (does_of (geometry_of c.args.c.geometry) c.args.s.now c.args.p st) (sym c.in-Shows.is) ∙ c.does_of.ensures.is _ st refl)
+pub returns-in-Ok-Shows : goal.returns-in-Ok-Shows
+returns-in-Ok-Shows c =
+    λ next. answers-shows (config_of c.args.c) c.args.p (tables c.args.sizes.now c.args.words.now c.args.mem.now) (meaning c.args.s.now c.args.o) next (c.number-k.ensures c.args.s.now)
+    (checked-clear c.check.ensures c.in-Ok-Shows.is) c.requires.known (rw c.show.ensures.table c.requires.counted) c.show.ensures.wrote
+    (checked-does c.check.ensures c.in-Ok-Shows.is c.in-Ok-Shows.field-0-is).0
 
-pub returns-in-Edits : goal.returns-in-Edits
-returns-in-Edits c =
-    let st : Store = record { sizes = c.args.sizes.now; words = c.args.words.now; mem = c.args.mem.now } in
-    λ next. answers-edits (config_of c.args.c) c.args.p st (meaning c.args.s.now c.args.o) next (c.number-k.ensures c.args.s.now)
-    (sym (c.error-e.ensures st refl) ∙ c.if-e-ne-OK.false)
-    (ap (does_of (geometry_of c.args.c.geometry) c.args.s.now c.args.p st) (sym c.in-Edits.is) ∙ c.does_of.ensures.is _ st refl)
+pub returns-in-Ok-Edits : goal.returns-in-Ok-Edits
+returns-in-Ok-Edits c =
+    λ next. answers-edits (config_of c.args.c) c.args.p (tables c.args.sizes.now c.args.words.now c.args.mem.now) (meaning c.args.s.now c.args.o) next (c.number-k.ensures c.args.s.now)
+    (checked-clear c.check.ensures c.in-Ok-Edits.is) (checked-does c.check.ensures c.in-Ok-Edits.is c.in-Ok-Edits.field-0-is).0
     (rw c.part.ensures.bytes_are at c.apply-done.ensures) c.edited.ensures

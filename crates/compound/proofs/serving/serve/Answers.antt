@@ -33,27 +33,7 @@ returns-then-reply-lt-MIN_REPLY c =
     let h = past_two in
     refused-short _ _ _ _ _ h.geometry h.lengths c.if-v-ne-VERIFIER.false c.if-s-gt-MAX_REQUEST.false c.if-reply-lt-MIN_REPLY.true _ c.refused_behind-then-reply-lt-MIN_REPLY.ensures
 
-pub serve_small-requires : goal.serve_small-requires
-serve_small-requires c =
+pub serve_with-requires-in_default-clause-admitted : goal.serve_with-requires-in_default-clause-admitted
+serve_with-requires-in_default-clause-admitted c =
     let past_two : Shaped (geometry_of c.args.g) (record { sizes = c.args.sizes.now; words = c.args.words.now; mem = c.args.mem.now }) = record { geometry = sym c.good.ensures ∙ c.if-not-good.false; lengths = sym c.good_lengths.ensures ∙ c.if-not-good_lengths.false } in
-    record { shaped = past_two; call = record { request = c.if-s-gt-MAX_REQUEST.false; room = c.if-reply-lt-MIN_REPLY.false }; blocks = c.if-g-le-SMALL_POOL.true }
-
-pub returns-then-g-le-SMALL_POOL : goal.returns-then-g-le-SMALL_POOL
-returns-then-g-le-SMALL_POOL c = rw c.verifier.ensures at c.serve_small.ensures
-
-pub serve_middle-requires : goal.serve_middle-requires
-serve_middle-requires c =
-    let past_two : Shaped (geometry_of c.args.g) (record { sizes = c.args.sizes.now; words = c.args.words.now; mem = c.args.mem.now }) = record { geometry = sym c.good.ensures ∙ c.if-not-good.false; lengths = sym c.good_lengths.ensures ∙ c.if-not-good_lengths.false } in
-    record { shaped = past_two; call = record { request = c.if-s-gt-MAX_REQUEST.false; room = c.if-reply-lt-MIN_REPLY.false }; blocks = c.if-g-le-MIDDLE_POOL.true }
-
-pub returns-then-g-le-MIDDLE_POOL : goal.returns-then-g-le-MIDDLE_POOL
-returns-then-g-le-MIDDLE_POOL c = rw c.verifier.ensures at c.serve_middle.ensures
-
-pub serve_large-requires : goal.serve_large-requires
-serve_large-requires c =
-    let past_two : Shaped (geometry_of c.args.g) (record { sizes = c.args.sizes.now; words = c.args.words.now; mem = c.args.mem.now }) = record { geometry = sym c.good.ensures ∙ c.if-not-good.false; lengths = sym c.good_lengths.ensures ∙ c.if-not-good_lengths.false } in
-    let h = past_two in
-    record { shaped = h; call = record { request = c.if-s-gt-MAX_REQUEST.false; room = c.if-reply-lt-MIN_REPLY.false }; blocks = most-blocks h }
-
-pub returns : goal.returns
-returns c = rw c.verifier.ensures at c.serve_large.ensures
+    record { shaped = past_two; call = record { request = c.if-s-gt-MAX_REQUEST.false; room = c.if-reply-lt-MIN_REPLY.false }; blocks = most-blocks past_two }

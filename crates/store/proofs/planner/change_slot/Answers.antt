@@ -1,30 +1,15 @@
-use Rattle.store.proofs.KindLaws.{changed-stays}
+use Rattle.store.proofs.KindLaws.{changed-stays, changed-given, changed-cleared, changed-shares, changed-reserved}
 use Rattle.store.proofs.planner.change_slot.Goals as goal
-
-pub share_slot-requires : goal.share_slot-requires
-share_slot-requires c =
-    (c.requires.counted, (c.requires.slot, rw c.in-Shares.is at c.requires.source))
-
-pub returns-in-Owns : goal.returns-in-Owns
-returns-in-Owns c =
-    rw c.in-Owns.is c.own_slot.ensures
-
-pub returns-in-Given : goal.returns-in-Given
-returns-in-Given c =
-    rw c.in-Given.is c.give_slot.ensures
-
-pub returns-in-Cleared : goal.returns-in-Cleared
-returns-in-Cleared c =
-    rw c.in-Cleared.is c.clear_slot.ensures
-
-pub returns-in-Shares : goal.returns-in-Shares
-returns-in-Shares c =
-    rw c.in-Shares.is c.share_slot.ensures
-
-pub returns-in-Reserved : goal.returns-in-Reserved
-returns-in-Reserved c =
-    rw c.in-Reserved.is c.reserve_slot.ensures
+use Rattle.store.proofs.planner.change_slot.Goals.{in-Given, in-Cleared, in-Shares, in-Reserved}
 
 pub returns-in-Stays : goal.returns-in-Stays
 returns-in-Stays c =
     rw c.in-Stays.is (changed-stays c.requires.counted c.requires.low)
+
+pub returns : goal.returns
+returns c = elim c.match-kind.branch [
+  | in-Given w ↦ rw w.in-Given.is (changed-given (rw w.w-is at c.set_word.ensures))
+  | in-Cleared w ↦ rw w.in-Cleared.is (changed-cleared (rw w.w-is at c.set_word.ensures))
+  | in-Shares w ↦ rw w.in-Shares.is (changed-shares (rw w.w-is at c.set_word.ensures))
+  | in-Reserved w ↦ rw w.in-Reserved.is (changed-reserved (rw w.w-is at c.set_word.ensures))
+]

@@ -1,12 +1,14 @@
-use mathlib.Core.Path.{sym, ap, ◌∙◌}
-use Rattle.xdr.specs.Answers.{of_word}
+use Rattle.std.proofs.Common.{◌≡◌, ℕ, refl, ap, ◌∙◌}
+use Rattle.std.specs.Prelude.{Option, Some, None}
+use Rattle.std.specs.Option.{unwrap_or}
+use Rattle.xdr.specs.Reading.{parsed, itself}
 use Rattle.xdr.proofs.ArrayLaws.{or_zero, numbers-at}
 use Rattle.wire.proofs.attrs.bitmap_word.Goals as goal
 
-pub returns-in_default : goal.returns-in_default
-returns-in_default c =
-    sym (ap (λ r. or_zero (of_word r)) c.in_default.is) ∙ ap or_zero (rw (c.part.ensures.bytes_are, c.new.ensures) at c.word.ensures) ∙ numbers-at _ _
+found : (o : Option ℕ) (at : ℕ) → unwrap_or o 0 ≡ or_zero (parsed itself o at)
+found (Some n) at = refl
+found None at = refl
 
 pub returns : goal.returns
 returns c =
-    sym (ap (λ r. or_zero (of_word r)) c.in-Value.is) ∙ ap or_zero (rw (c.part.ensures.bytes_are, c.new.ensures) at c.word.ensures) ∙ numbers-at _ _
+    c.unwrap_or.ensures ∙ found c.u32.result c.u32.new.self.at ∙ ap or_zero (rw c.part.ensures.bytes_are at c.u32.ensures.value) ∙ numbers-at _ _

@@ -1,10 +1,6 @@
-use native.Mathlib.Omega.{arith}
-use Rattle.wire.proofs.FieldLaws.{written-more}
+use Rattle.xdr.proofs.WritingLaws.{wrote_then}
 use Rattle.wire.proofs.result.put_copied.Goals as goal
 
 pub returns : goal.returns
 returns c =
-    written-more (omega (arith, c.requires)) c.put_u32-bytes.ensures
-    (λ h. written-more h c.put_u64-sync.ensures
-    (λ h. written-more h c.put_u32-place.ensures
-    (λ h. written-more h c.put_u64-consecutive.ensures (λ h. written-more h c.put_bool-synchronous.ensures (λ h. c.put_bool.ensures)))))
+    wrote_then c.u32.ensures (wrote_then c.u64.ensures (wrote_then c.u32-2.ensures (wrote_then c.u64-2.ensures (wrote_then c.boolean.ensures c.boolean-2.ensures))))

@@ -1,5 +1,0 @@
-use Rattle.tables.proofs.SurveyLaws.{table-zeros}
-use Rattle.compound.proofs.serving.serve_small.Goals as goal
-
-pub serve_in-requires : goal.serve_in-requires
-serve_in-requires c = (table-zeros _ _ 256 c.requires.shaped c.requires.blocks, c.requires.call)

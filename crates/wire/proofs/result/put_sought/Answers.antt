@@ -1,7 +1,0 @@
-use native.Mathlib.Omega.{arith}
-use Rattle.xdr.proofs.BytesLaws.{written_then}
-use Rattle.wire.proofs.result.put_sought.Goals as goal
-
-pub returns : goal.returns
-returns c =
-    written_then (omega arith) c.put_bool-next.ensures c.put_u64.ensures

@@ -1,5 +1,5 @@
 pub mod WriteLaws
 pub mod RequestLaws
+pub mod RecordLaws
 pub mod ReadLaws
 pub mod OpenLaws
-pub mod RecordLaws

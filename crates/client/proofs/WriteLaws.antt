@@ -1,9 +1,9 @@
 -- Laws on a request that is written: how long an operation is, and what stands in the buffer.
-use Prim.Native.Nat.{ℕ, zero, suc, ◌+◌, ◌-◌, ◌*◌, ◌/◌, ◌%◌, ◌^◌, ◌≤◌, ◌<◌, min}
+use Prim.Native.Nat.{ℕ, zero, suc, ◌+◌, ◌-◌, ◌*◌, ◌/◌, ◌%◌, ◌^◌, ◌≤◌, ◌<◌}
 use mathlib.Core.Path.{◌≡◌, refl, sym, ap, ◌∙◌}
 use mathlib.Core.Bool.{Bool, true, false, cond, ◌&&◌, and-true, and_comm, and_assoc}
 use mathlib.Core.List.{List, [], ◌∷◌, ◌++◌}
-use native.Mathlib.Nat.{min-eq_right}
+use Rattle.std.specs.Prelude.{Some, None}
 use native.Mathlib.Decide.{dec_le}
 use native.Mathlib.Omega.{arith}
 use borrow.Author.Tests.{leb-true, leb-false, eqb-true, lt-ltb, le-leb, lt-leb}
@@ -11,7 +11,7 @@ use lib.ListN.{length, get_or, take, drop, length-append, length-take, length-dr
 use lib.Seq.{length-take-le, take-suc, get_or-take, get_or-drop}
 use lib.Dec.{leb, ltb, eqb}
 use Rattle.xdr.specs.declared.bytes.Span.{Span}
-use Rattle.xdr.specs.Bytes.{part_of, Written}
+use Rattle.xdr.specs.Bytes.{part_of}
 use Rattle.xdr.specs.Encode.{u32, opaque_size, concat_map, array}
 use Rattle.xdr.specs.Decode.{value, fours, numbers}
 use Rattle.xdr.specs.Layout.{every, is_word, any_length}
@@ -25,35 +25,26 @@ use Rattle.wire.specs.declared.operation.CloneArgs.{CloneArgs}
 use Rattle.wire.specs.declared.operation.CopyArgs.{CopyArgs}
 use Rattle.wire.specs.declared.operation.Operation.{Operation}
 use Rattle.wire.specs.Decoded.{meaning}
-use Rattle.wire.proofs.FieldLaws.{written-sized}
-use Rattle.client.specs.Given.{lent_in, stateid_ok, writable, args_bytes, op_size, TOO_LONG}
+use Rattle.client.specs.Given.{lent_in, stateid_ok, writable, args_bytes, op_size}
 
 -- ---- tests that hold together
 
 pub both : (a b : Bool) → a && b ≡ true → (a ≡ true) × (b ≡ true)
 both a b h = (and_left a b h, and_right a b h)
 
-pub three : (a b c : Bool) → a && (b && c) ≡ true → (a ≡ true) × ((b ≡ true) × (c ≡ true))
+three : (a b c : Bool) → a && (b && c) ≡ true → (a ≡ true) × ((b ≡ true) × (c ≡ true))
 three a b c h = (and_left a (b && c) h, both b c (and_right a (b && c) h))
 
-pub four : (a b c d : Bool) → a && (b && (c && d)) ≡ true → (a ≡ true) × ((b ≡ true) × ((c ≡ true) × (d ≡ true)))
+four : (a b c d : Bool) → a && (b && (c && d)) ≡ true → (a ≡ true) × ((b ≡ true) × ((c ≡ true) × (d ≡ true)))
 four a b c d h = (and_left a (b && (c && d)) h, three b c d (and_right a (b && (c && d)) h))
 
 -- ---- spans
-
--- the span lies in the data, as the code tests it
-pub lent_is : (n start len : ℕ) → start ≤ n → leb len (n - start) ≡ leb (start + len) n
-lent_is n start len h = go (leb (start + len) n) refl
-  where
-    go : (t : Bool) → leb (start + len) n ≡ t → leb len (n - start) ≡ t
-    go true e = le-leb len (n - start) (omega (arith, leb-true (start + len) n e))
-    go false e = lt-leb len (n - start) (omega (arith, leb-false (start + len) n e))
 
 pub part_length : (s : List ℕ) (d : Span) → lent_in s d ≡ true → length (part_of s d) ≡ d.len
 unfolding part_of
 part_length s d h = length-take-le d.len (drop d.start s) (rw (length-drop d.start s) (omega (arith, leb-true (d.start + d.len) (length s) h)))
 
-pub stateid-length : (s : List ℕ) (d : Span) → stateid_ok s d ≡ true → length (part_of s d) ≡ 16
+stateid-length : (s : List ℕ) (d : Span) → stateid_ok s d ≡ true → length (part_of s d) ≡ 16
 stateid-length s d h =
     let t = both (eqb d.len 16) (lent_in s d) h in
     part_length s d t.1 ∙ eqb-true d.len 16 t.0
@@ -69,8 +60,8 @@ stateid-fits s d b e = go (lent_in s d) refl
 -- ---- how long an operation is
 
 -- its number, and its arguments
-pub op-length : (s : List ℕ) (o : Operation) → length (op_bytes (meaning s o)) ≡ 4 + length (args_bytes s o)
-op-length s o = length-append (u32 (op_number (meaning s o))) (args_bytes s o) ∙ rw (length-u32 (op_number (meaning s o)))
+pub op_length : (s : List ℕ) (o : Operation) → length (op_bytes (meaning s o)) ≡ 4 + length (args_bytes s o)
+op_length s o = length-append (u32 (op_number (meaning s o))) (args_bytes s o) ∙ rw (length-u32 (op_number (meaning s o)))
 
 -- test w is t, and where it holds, bs has n bytes
 pub record Measured (w : Bool) (bs : List ℕ) (t : Bool) (n : ℕ) : Type 0 where
@@ -81,37 +72,28 @@ pub record Measured (w : Bool) (bs : List ℕ) (t : Bool) (n : ℕ) : Type 0 whe
 abbrev pub Sized : List ℕ → Operation → Bool → ℕ → Type 0
 Sized s o t n = Measured (writable s o) (args_bytes s o) t n
 
--- its size, from that
-size_is : (s : List ℕ) (o : Operation) {t : Bool} {n : ℕ} → Sized s o t n → op_size s o ≡ cond t (min (4 + n) TOO_LONG) TOO_LONG
-size_is s o {t} {n} z = go t z.when z.long
+-- its size m, from that
+size_is : (s : List ℕ) (o : Operation) {t : Bool} {n m : ℕ} → Sized s o t n → 4 + n ≡ m → op_size s o ≡ cond t (Some m) None
+unfolding op_size
+size_is s o {t} {n} {m} z e = go t z.when z.long
   where
-    go : (t : Bool) → writable s o ≡ t → (t ≡ true → length (args_bytes s o) ≡ n) → op_size s o ≡ cond t (min (4 + n) TOO_LONG) TOO_LONG
-    go true e l = rw (e, op-length s o, l refl)
-    go false e l = rw e
-
-pub is-size : (s : List ℕ) (o : Operation) {t : Bool} {n r : ℕ} → Sized s o t n → r ≡ cond t (min (4 + n) TOO_LONG) TOO_LONG → r ≡ op_size s o
-is-size s o z e = e ∙ sym (size_is s o z)
-
-pub too_long : (s : List ℕ) (o : Operation) {t : Bool} {n : ℕ} → Sized s o t n → TOO_LONG ≤ 4 + n → TOO_LONG ≡ op_size s o
-too_long s o {t} {n} z h = is-size s o z (go t)
-  where
-    go : (t : Bool) → TOO_LONG ≡ cond t (min (4 + n) TOO_LONG) TOO_LONG
-    go true = sym (min-eq_right h)
-    go false = refl
+    go : (t : Bool) → writable s o ≡ t → (t ≡ true → length (args_bytes s o) ≡ n) → cond (writable s o) (Some (length (op_bytes (meaning s o)))) None ≡ cond t (Some m) None
+    go true w l = rw (w, op_length s o, l refl, e)
+    go false w l = rw w
 
 -- without arguments: GETFH, RESTOREFH, SAVEFH
-pub bare_sized : (s : List ℕ) → Sized s Operation.GetFh true 0
+bare_sized : (s : List ℕ) → Sized s Operation.GetFh true 0
 bare_sized s = record { when = refl; long = λ t. refl }
 
 -- READ, READ_PLUS, SEEK
-pub read-sized : (s : List ℕ) (a : ReadArgs) → (a.offset < 2 ^ 64) × (a.count < 2 ^ 32) → Sized s (Operation.Read a) (stateid_ok s a.stateid) 28
+read-sized : (s : List ℕ) (a : ReadArgs) → (a.offset < 2 ^ 64) × (a.count < 2 ^ 32) → Sized s (Operation.Read a) (stateid_ok s a.stateid) 28
 read-sized s a h = record {
   when = stateid-fits s a.stateid _ (rw (lt-ltb a.offset (2 ^ 64) h.0, lt-ltb a.count (2 ^ 32) h.1));
   long = λ t. simp (length-append, length-u64, length-u32) (omega (arith, stateid-length s a.stateid t));
 }
 
 -- ALLOCATE, DEALLOCATE
-pub region-sized : (s : List ℕ) (a : RegionArgs) → (a.offset < 2 ^ 64) × (a.length < 2 ^ 64) → Sized s (Operation.Allocate a) (stateid_ok s a.stateid) 32
+region-sized : (s : List ℕ) (a : RegionArgs) → (a.offset < 2 ^ 64) × (a.length < 2 ^ 64) → Sized s (Operation.Allocate a) (stateid_ok s a.stateid) 32
 region-sized s a h = record {
   when = stateid-fits s a.stateid _ (rw (lt-ltb a.offset (2 ^ 64) h.0, lt-ltb a.length (2 ^ 64) h.1));
   long = λ t. simp (length-append, length-u64) (omega (arith, stateid-length s a.stateid t));
@@ -125,7 +107,7 @@ limit_fits limit n h = go (leb n limit) refl
     go true e = lt-ltb n (2 ^ 32) (omega (arith, leb-true n limit e))
     go false e = refl
 
-pub handle-sized : (s : List ℕ) (d : Span) → Sized s (Operation.PutFh d) (leb d.len 128 && lent_in s d) (opaque_size d.len)
+handle-sized : (s : List ℕ) (d : Span) → Sized s (Operation.PutFh d) (leb d.len 128 && lent_in s d) (opaque_size d.len)
 handle-sized s d = record {
   when = go (lent_in s d) refl;
   long = λ t. length-opaque (part_of s d) ∙ ap opaque_size (part_length s d (both (leb d.len 128) (lent_in s d) t).1);
@@ -146,7 +128,7 @@ stateids_fit s d e b h = go (lent_in s d) (lent_in s e) refl refl
     go true false p q = rw (and_false (eqb e.len 16), and_false (eqb d.len 16 && true))
     go false u p q = rw (and_false (eqb d.len 16))
 
-pub clone-sized : (s : List ℕ) (a : CloneArgs) → (a.from < 2 ^ 64) × ((a.to < 2 ^ 64) × (a.count < 2 ^ 64))
+clone-sized : (s : List ℕ) (a : CloneArgs) → (a.from < 2 ^ 64) × ((a.to < 2 ^ 64) × (a.count < 2 ^ 64))
     → Sized s (Operation.Clone a) (stateid_ok s a.source && stateid_ok s a.target) 56
 clone-sized s a h = record {
   when = stateids_fit s a.source a.target _ (rw (lt-ltb a.from (2 ^ 64) h.0, lt-ltb a.to (2 ^ 64) h.1.0, lt-ltb a.count (2 ^ 64) h.1.1));
@@ -161,7 +143,7 @@ copy-tests a b true true e = rw (and-true (a && b), and-true (a && b), and-true 
 copy-tests a b true false e = rw (and_false (a && b && true))
 copy-tests a b false d e = rw (and_false (a && b))
 
-pub copy-sized : (s : List ℕ) (a : CopyArgs) → (a.clone.from < 2 ^ 64) × ((a.clone.to < 2 ^ 64) × (a.clone.count < 2 ^ 64))
+copy-sized : (s : List ℕ) (a : CopyArgs) → (a.clone.from < 2 ^ 64) × ((a.clone.to < 2 ^ 64) × (a.clone.count < 2 ^ 64))
     → Sized s (Operation.Copy a) (leb a.consecutive 1 && (leb a.synchronous 1 && (stateid_ok s a.clone.source && stateid_ok s a.clone.target))) 68
 copy-sized s a h =
     let c = a.clone in
@@ -175,7 +157,7 @@ copy-sized s a h =
           ∙ rw (z.long (three (leb a.consecutive 1) (leb a.synchronous 1) ids t).1.1) (simp (length-append, length-bool, length-u32));
     }
 
-pub write-sized : (s : List ℕ) (a : WriteArgs) → a.offset < 2 ^ 64
+write-sized : (s : List ℕ) (a : WriteArgs) → a.offset < 2 ^ 64
     → Sized s (Operation.Write a) (leb a.stable 2 && (lent_in s a.data && (leb a.data.len any_length && stateid_ok s a.stateid))) (28 + opaque_size a.data.len)
 write-sized s a h = record {
   when = go (lent_in s i) (lent_in s d) refl refl;
@@ -259,7 +241,7 @@ bitmap-spelled s d b h m =
     let l = part_length s d h in
     rw l (spelled (d.len / 4) (part_of s d) (omega (arith, l)) (part_bytes s d b))
 
-pub attr_sized : (s : List ℕ) (d : Span) → Bytes s → Sized s (Operation.GetAttr d) (leb d.len 16 && (eqb (d.len % 4) 0 && lent_in s d)) (4 + d.len)
+attr_sized : (s : List ℕ) (d : Span) → Bytes s → Sized s (Operation.GetAttr d) (leb d.len 16 && (eqb (d.len % 4) 0 && lent_in s d)) (4 + d.len)
 attr_sized s d b = record {
   when = go (lent_in s d) (eqb (d.len % 4) 0) refl refl;
   long = λ t.
@@ -285,19 +267,89 @@ attr_sized s d b = record {
 
 -- ---- what is written
 
--- as many bytes as there are
-pub written-whole : {bs : List ℕ} {n at p : ℕ} {x y : List ℕ} → Written bs n at x y p → Written bs (length bs) at x y p
-written-whole w = written-sized (sym w.size) w
+-- a bitmap that can be written
+module _ (s : List ℕ) (d : Span) (b : Bytes s) (h : writable s (Operation.GetAttr d) ≡ true) where
+  pub bitmap_words : (lent_in s d ≡ true) × ((d.len % 4 ≡ 0) × (d.len ≤ 16))
+  bitmap_words =
+      let z = attr_sized s d b in
+      let ok = three (leb d.len 16) (eqb (d.len % 4) 0) (lent_in s d) (sym z.when ∙ h) in
+      (ok.1.1, (eqb-true (d.len % 4) 0 ok.1.0, leb-true d.len 16 ok.0))
 
--- an operation that can be written, and room for its arguments: what its size says
-pub room_for : {w t : Bool} {bs : List ℕ} {n : ℕ} (at m : ℕ) → Measured w bs t n → (w ≡ true) × (at + length bs ≤ m) → (t ≡ true) × (at + n ≤ m)
-room_for at m z h = let t = sym z.when ∙ h.0 in (t, omega (arith, z.long t, h.1))
+  pub bitmap_length : length (args_bytes s (Operation.GetAttr d)) ≡ 4 + d.len
+  bitmap_length = let z = attr_sized s d b in z.long (sym z.when ∙ h)
 
-pub bitmap_bytes_lem : (s : List ℕ) (d : Span) → Bytes s → lent_in s d ≡ true → d.len % 4 ≡ 0 → bitmap_args.write (numbers (part_of s d)) ≡ u32 (d.len / 4) ++ part_of s d
+pub bitmap_bytes : (s : List ℕ) (d : Span) → Bytes s → lent_in s d ≡ true → d.len % 4 ≡ 0 → bitmap_args.write (numbers (part_of s d)) ≡ u32 (d.len / 4) ++ part_of s d
 unfolding array
-bitmap_bytes_lem s d b h m = let z = bitmap-spelled s d b h m in rw (z.many, z.bytes)
+bitmap_bytes s d b h m = let z = bitmap-spelled s d b h m in rw (z.many, z.bytes)
 
--- room for a span as opaque data: for the bytes r that it stands for
-pub opaque-room : (s : List ℕ) (d : Span) {r : List ℕ} (at m : ℕ) → r ≡ part_of s d → lent_in s d ≡ true → d.len < 2 ^ 32 → at + opaque_size d.len ≤ m
-    → (length r < 2 ^ 32) × (at + opaque_size (length r) ≤ m)
-opaque-room s d at m e t h k = rw (ap length e ∙ part_length s d t) (h, k)
+-- ---- lengths of arguments
+
+module _ (s : List ℕ) where
+  pub read_length : (a : ReadArgs) → length (args_bytes s (Operation.Read a)) ≡ length (part_of s a.stateid) + 12
+  read_length a = simp (length-append, length-u64, length-u32)
+
+  pub region_length : (a : RegionArgs) → length (args_bytes s (Operation.Allocate a)) ≡ length (part_of s a.stateid) + 16
+  region_length a = simp (length-append, length-u64)
+
+  pub write_length : (a : WriteArgs) → length (args_bytes s (Operation.Write a)) ≡ length (part_of s a.stateid) + (12 + opaque_size (length (part_of s a.data)))
+  write_length a = simp (length-append, length-u64, length-u32, length-opaque) (omega arith)
+
+  pub clone_length : (a : CloneArgs) → length (args_bytes s (Operation.Clone a)) ≡ length (part_of s a.source) + (length (part_of s a.target) + 24)
+  clone_length a = simp (length-append, length-u64)
+
+  pub copy_length : (a : CopyArgs) → length (args_bytes s (Operation.Copy a)) ≡ length (part_of s a.clone.source) + (length (part_of s a.clone.target) + 36)
+  copy_length a = simp (length-append, length-u64, length-u32, length-bool) (omega arith)
+
+pub ruleset args_lengths = (read_length, region_length, write_length, clone_length, copy_length, length-opaque)
+
+-- ---- sizes
+
+pub ruleset lengths = (length-u32, length-u64, length-bool, length-opaque)
+
+module _ (s : List ℕ) where
+  pub get_fh_size : op_size s Operation.GetFh ≡ Some 4
+  get_fh_size = size_is s Operation.GetFh (bare_sized s) refl
+
+  pub restore_fh_size : op_size s Operation.RestoreFh ≡ Some 4
+  restore_fh_size = size_is s Operation.RestoreFh (bare_sized s) refl
+
+  pub save_fh_size : op_size s Operation.SaveFh ≡ Some 4
+  save_fh_size = size_is s Operation.SaveFh (bare_sized s) refl
+
+  pub get_attr_size : (d : Span) → Bytes s → op_size s (Operation.GetAttr d) ≡ cond (leb d.len 16 && (eqb (d.len % 4) 0 && lent_in s d)) (Some (8 + d.len)) None
+  get_attr_size d b = size_is s (Operation.GetAttr d) (attr_sized s d b) (omega arith)
+
+  pub put_fh_size : (d : Span) → op_size s (Operation.PutFh d) ≡ cond (leb d.len 128 && lent_in s d) (Some (4 + opaque_size d.len)) None
+  put_fh_size d = size_is s (Operation.PutFh d) (handle-sized s d) (omega arith)
+
+  module _ (a : ReadArgs) (p : a.offset < 2 ^ 64) (q : a.count < 2 ^ 32) where
+    pub read_size : op_size s (Operation.Read a) ≡ cond (stateid_ok s a.stateid) (Some 32) None
+    read_size = size_is s (Operation.Read a) (read-sized s a (p, q)) refl
+
+    pub read_plus_size : op_size s (Operation.ReadPlus a) ≡ cond (stateid_ok s a.stateid) (Some 32) None
+    read_plus_size = size_is s (Operation.ReadPlus a) (read-sized s a (p, q)) refl
+
+    pub seek_size : op_size s (Operation.Seek a) ≡ cond (stateid_ok s a.stateid) (Some 32) None
+    seek_size = size_is s (Operation.Seek a) (read-sized s a (p, q)) refl
+
+  pub write_size : (a : WriteArgs) → a.offset < 2 ^ 64
+      → op_size s (Operation.Write a) ≡ cond (leb a.stable 2 && (lent_in s a.data && (leb a.data.len any_length && stateid_ok s a.stateid))) (Some (32 + opaque_size a.data.len)) None
+  write_size a p = size_is s (Operation.Write a) (write-sized s a p) (omega arith)
+
+  module _ (a : RegionArgs) (p : a.offset < 2 ^ 64) (q : a.length < 2 ^ 64) where
+    pub allocate_size : op_size s (Operation.Allocate a) ≡ cond (stateid_ok s a.stateid) (Some 36) None
+    allocate_size = size_is s (Operation.Allocate a) (region-sized s a (p, q)) refl
+
+    pub deallocate_size : op_size s (Operation.Deallocate a) ≡ cond (stateid_ok s a.stateid) (Some 36) None
+    deallocate_size = size_is s (Operation.Deallocate a) (region-sized s a (p, q)) refl
+
+  pub clone_size : (a : CloneArgs) → a.from < 2 ^ 64 → a.to < 2 ^ 64 → a.count < 2 ^ 64
+      → op_size s (Operation.Clone a) ≡ cond (stateid_ok s a.source && stateid_ok s a.target) (Some 60) None
+  clone_size a p q r = size_is s (Operation.Clone a) (clone-sized s a (p, (q, r))) refl
+
+  pub copy_size : (a : CopyArgs) → a.clone.from < 2 ^ 64 → a.clone.to < 2 ^ 64 → a.clone.count < 2 ^ 64
+      → op_size s (Operation.Copy a)
+      ≡ cond (leb a.consecutive 1 && (leb a.synchronous 1 && (stateid_ok s a.clone.source && stateid_ok s a.clone.target))) (Some 72) None
+  copy_size a p q r = size_is s (Operation.Copy a) (copy-sized s a (p, (q, r))) refl
+
+pub ruleset op_sizes = (get_fh_size, restore_fh_size, save_fh_size, get_attr_size, put_fh_size, read_size, read_plus_size, seek_size, write_size, allocate_size, deallocate_size, clone_size, copy_size)

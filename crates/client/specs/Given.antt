@@ -1,13 +1,15 @@
 -- Operations as a client gives them: spans stand for bytes of the lent data.
-use Rattle.std.specs.Prelude.{ℕ, ◌+◌, ◌%◌, min, ◌≡◌, Bool, true, cond, ◌&&◌, List, [], ◌∷◌, length, take, leb, ltb, eqb}
-use Rattle.std.proofs.Math.Option.{Option, none, some}
+use Rattle.std.specs.Prelude.{ℕ, ◌+◌, ◌%◌, ◌≡◌, Bool, true, cond, ◌&&◌, List, [], ◌∷◌, length, leb, eqb, Option, Some, None, Result, Ok, Err}
+use Rattle.std.proofs.Math.Option as maybe
+use Rattle.std.proofs.Math.Option.{none, some}
 use Rattle.xdr.specs.declared.bytes.Span.{Span}
 use Rattle.xdr.specs.Encode.{concat_map}
+use Rattle.xdr.specs.Layout.{every}
 use Rattle.rules.specs.Operation.{Op, wire, op_fits, op_bytes}
-use Rattle.rules.specs.Client.{wrote}
+use Rattle.rules.specs.Client.{Wrote, not_written, wrote}
 use Rattle.wire.specs.declared.operation.Operation.{Operation}
 use Rattle.wire.specs.Decoded.{meaning}
-use Rattle.client.specs.declared.request.Wrote.{Wrote}
+use Rattle.client.specs.declared.request.Refusal.{Refusal}
 
 -- ---- what they stand for
 
@@ -32,35 +34,14 @@ well_given s (Operation.Seek a) = lent_in s a.stateid
 well_given s (Operation.Clone a) = lent_in s a.source && lent_in s a.target
 
 -- the rules' operations, where each of them stands for one
-abbrev pub given_ops : List ℕ → List Operation → Option (List Op)
-given_ops s [] = some []
-given_ops s (o ∷ os) = cond (well_given s o) (elim (given_ops s os) [ none ↦ none | some ps ↦ some (meaning s o ∷ ps) ]) none
+abbrev pub given : List ℕ → List Operation → maybe.Option (List Op)
+given s [] = some []
+given s (o ∷ os) = cond (well_given s o) (elim (given s os) [ none ↦ none | some ps ↦ some (meaning s o ∷ ps) ]) none
 
--- the first `count` of the array; there are no more than it has
-abbrev pub given : List ℕ → List Operation → ℕ → Option (List Op)
-given s os count = cond (ltb (length os) count) none (given_ops s (take count os))
-
--- ---- how long they are
-
--- longer than any request: what can't be written
-abbrev pub TOO_LONG : ℕ
-TOO_LONG = 65537
+-- ---- what is written of them
 
 abbrev pub writable : List ℕ → Operation → Bool
 writable s o = well_given s o && op_fits (meaning s o)
-
-abbrev pub op_size : List ℕ → Operation → ℕ
-op_size s o = cond (writable s o) (min (length (op_bytes (meaning s o))) TOO_LONG) TOO_LONG
-
-abbrev pub sizes : List ℕ → List Operation → ℕ
-sizes s [] = 0
-sizes s (o ∷ os) = op_size s o + sizes s os
-
--- a stateid in the data
-abbrev pub stateid_ok : List ℕ → Span → Bool
-stateid_ok s d = eqb d.len 16 && lent_in s d
-
--- ---- what is written of them
 
 abbrev pub args_bytes : List ℕ → Operation → List ℕ
 args_bytes s o = (wire (meaning s o)).1.bytes
@@ -68,12 +49,28 @@ args_bytes s o = (wire (meaning s o)).1.bytes
 abbrev pub ops_bytes : List ℕ → List Operation → List ℕ
 ops_bytes s os = concat_map (λ o. op_bytes (meaning s o)) os
 
-abbrev pub AllWritable : List ℕ → List Operation → Type 0
-AllWritable s [] = Unit {0}
-AllWritable s (o ∷ os) = (writable s o ≡ true) × AllWritable s os
+-- how long it is as written, where it can be written
+unfoldable pub op_size : List ℕ → Operation → Option ℕ
+op_size s o = cond (writable s o) (Some (length (op_bytes (meaning s o)))) None
+
+-- and all of them
+abbrev pub ops_size : List ℕ → List Operation → Option ℕ
+ops_size s os = cond (every (writable s) os) (Some (length (ops_bytes s os))) None
+
+-- a stateid in the data
+abbrev pub stateid_ok : List ℕ → Span → Bool
+stateid_ok s d = eqb d.len 16 && lent_in s d
+
+-- ---- a request that is written
+
+abbrev pub refusal_number : Refusal → ℕ
+refusal_number Refusal.ShortBuffer = 9
+refusal_number Refusal.NotWritable = 11
+
+abbrev pub of_written : Result ℕ Refusal → List ℕ → Wrote
+of_written (Ok n) after = record { number = 0; written = n; buffer = after }
+of_written (Err e) after = not_written (refusal_number e) after
 
 -- the rules' account of a request written (document 01's numbers, with request K6): the number, the bytes written, and the buffer
-pub record WritePromise (tag : List ℕ) (ops : Option (List Op)) (before : List ℕ) (r : Wrote) (after : List ℕ) : Type 0 where
-  pub number_is : r.number ≡ (wrote tag ops before).number
-  pub written_is : r.written ≡ (wrote tag ops before).written
-  pub buffer_is : after ≡ (wrote tag ops before).buffer
+abbrev pub WritePromise : (tag : List ℕ) → maybe.Option (List Op) → (before : List ℕ) → Result ℕ Refusal → (after : List ℕ) → Type 0
+WritePromise tag ops before r after = of_written r after ≡ wrote tag ops before

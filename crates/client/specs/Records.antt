@@ -1,13 +1,13 @@
 -- Operations as records of ten numbers.
-use Rattle.std.specs.Prelude.{ℕ, zero, suc, ◌+◌, ◌/◌, ◌%◌, cond, ◌&&◌, List, [], ◌∷◌, length, get_or, eqb}
-use Rattle.std.proofs.Math.Option.{Option, none, some}
+use Rattle.std.specs.Prelude.{ℕ, zero, suc, ◌+◌, ◌/◌, ◌%◌, cond, ◌&&◌, List, [], ◌∷◌, length, get_or, eqb, Option, Some, None}
+use Rattle.std.proofs.Math.Option as maybe
+use Rattle.std.proofs.Math.Option.{none, some}
 use Rattle.xdr.specs.Layout.{is_word}
 use Rattle.rules.specs.Operation.{Op, find}
 use Rattle.wire.specs.declared.operation.CloneArgs.{CloneArgs}
 use Rattle.wire.specs.declared.operation.Operation.{Operation}
 use Rattle.client.specs.declared.records.OpRecord.{OpRecord}
-use Rattle.client.specs.declared.records.Made.{Made}
-use Rattle.client.specs.Given.{given_ops}
+use Rattle.client.specs.Given.{given}
 
 -- ---- operations
 
@@ -23,13 +23,9 @@ record_at ns at = record {
   e = get_or ns (at + 9) 0;
 }
 
-abbrev pub of_made : Made → Option Operation
-of_made (Made.Op o) = some o
-of_made Made.Wrong = none
-
 -- where it is a number of 32 bits
 abbrev pub if_word : ℕ → Operation → Option Operation
-if_word n o = cond (is_word n) (some o) none
+if_word n o = cond (is_word n) (Some o) None
 
 abbrev pub clone_in : OpRecord → CloneArgs
 clone_in r = record { source = r.first; target = r.second; from = r.a; to = r.b; count = r.c }
@@ -37,29 +33,29 @@ clone_in r = record { source = r.first; target = r.second; from = r.a; to = r.b;
 -- the operations of a record, by number; what an operation has not is not looked at
 abbrev pub record_rows : OpRecord → List (ℕ × Option Operation)
 record_rows r =
-    (9, some (Operation.GetAttr r.first))
-    ∷ (10, some Operation.GetFh)
-    ∷ (22, some (Operation.PutFh r.first))
+    (9, Some (Operation.GetAttr r.first))
+    ∷ (10, Some Operation.GetFh)
+    ∷ (22, Some (Operation.PutFh r.first))
     ∷ (25, if_word r.b (Operation.Read (record { stateid = r.first; offset = r.a; count = r.b })))
-    ∷ (31, some Operation.RestoreFh)
-    ∷ (32, some Operation.SaveFh)
+    ∷ (31, Some Operation.RestoreFh)
+    ∷ (32, Some Operation.SaveFh)
     ∷ (38, if_word r.b (Operation.Write (record { stateid = r.first; offset = r.a; stable = r.b; «data» = r.second })))
-    ∷ (59, some (Operation.Allocate (record { stateid = r.first; offset = r.a; length = r.b })))
-    ∷ (60, cond (is_word r.d && is_word r.e) (some (Operation.Copy (record { clone = clone_in r; consecutive = r.d; synchronous = r.e }))) none)
-    ∷ (62, some (Operation.Deallocate (record { stateid = r.first; offset = r.a; length = r.b })))
+    ∷ (59, Some (Operation.Allocate (record { stateid = r.first; offset = r.a; length = r.b })))
+    ∷ (60, cond (is_word r.d && is_word r.e) (Some (Operation.Copy (record { clone = clone_in r; consecutive = r.d; synchronous = r.e }))) None)
+    ∷ (62, Some (Operation.Deallocate (record { stateid = r.first; offset = r.a; length = r.b })))
     ∷ (68, if_word r.b (Operation.ReadPlus (record { stateid = r.first; offset = r.a; count = r.b })))
     ∷ (69, if_word r.b (Operation.Seek (record { stateid = r.first; offset = r.a; count = r.b })))
-    ∷ (71, some (Operation.Clone (clone_in r))) ∷ []
+    ∷ (71, Some (Operation.Clone (clone_in r))) ∷ []
 
 -- none for a number that is not served
 abbrev pub record_op : OpRecord → Option Operation
-record_op r = elim (find r.number (record_rows r)) [ none ↦ none | some o ↦ o ]
+record_op r = elim (find r.number (record_rows r)) [ none ↦ None | some o ↦ o ]
 
 -- n records from place `at` on
 abbrev pub record_ops : List ℕ → ℕ → ℕ → Option (List Operation)
-record_ops ns at zero = some []
-record_ops ns at (suc n) = elim (record_op (record_at ns at)) [ none ↦ none | some o ↦ elim (record_ops ns (at + 10) n) [ none ↦ none | some os ↦ some (o ∷ os) ] ]
+record_ops ns at zero = Some []
+record_ops ns at (suc n) = elim (record_op (record_at ns at)) [ None ↦ None | Some o ↦ elim (record_ops ns (at + 10) n) [ None ↦ None | Some os ↦ Some (o ∷ os) ] ]
 
 -- the rules' operations that the numbers ns stand for, with data s
-abbrev pub given_records : List ℕ → List ℕ → Option (List Op)
-given_records s ns = cond (eqb (length ns % 10) 0) (elim (record_ops ns 0 (length ns / 10)) [ none ↦ none | some os ↦ given_ops s os ]) none
+abbrev pub given_records : List ℕ → List ℕ → maybe.Option (List Op)
+given_records s ns = cond (eqb (length ns % 10) 0) (elim (record_ops ns 0 (length ns / 10)) [ None ↦ none | Some os ↦ given s os ]) none

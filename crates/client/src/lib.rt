@@ -11,13 +11,13 @@ mod request;
 mod result;
 mod size;
 
-pub use body::piece;
-pub use open::{Opened, open_reply};
-pub use reader::{ReplyReader, next_at};
+pub use body::next_piece;
+pub use open::{NotOpened, Opened, open_reply};
+pub use reader::ReplyReader;
 pub use records::{OpRecord, write_records};
 pub use reply::{
-    AttrsBody, Body, CopiedBody, DataBody, DataPiece, HolePiece, OpResult, PieceRead, PiecesBody,
-    SoughtBody, Step, WrittenBody,
+    AttrsBody, Body, CopiedBody, DataBody, DataPiece, Fault, HolePiece, OpResult, Piece,
+    PiecesBody, SoughtBody, WrittenBody,
 };
-pub use request::{Wrote, write_request};
+pub use request::{Refusal, write_request};
 pub use result::step;

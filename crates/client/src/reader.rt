@@ -1,64 +1,67 @@
-// A reader kept together with the reply that it reads: thin functions over `step`, on slice and place.
-ghost use Rattle.std.specs.Prelude.{◌≡◌};
+// A reader kept together with the reply that it reads.
+ghost use Rattle.std.specs.Prelude.{◌≡◌, None, Ok};
 ghost use Rattle.xdr.specs.Part.{PartPromise};
+ghost use Rattle.xdr.specs.Reading.{parsed};
 ghost use Rattle.rules.specs.Client.{step, piece_layout};
 ghost use Rattle.client.specs.Read.{of_step, of_piece};
 
-use crate::body;
+use crate::body::next_piece;
 use crate::open::Opened;
-use crate::reply::{PieceRead, Step};
+use crate::reply::{Fault, OpResult, Piece};
 use crate::result::step;
-use xdr::{Cursor, Span};
+use xdr::{Reader, Span};
 
 #[derive(Clone, Copy)]
 pub struct ReplyReader<'a> {
-    pub reply: &'a [u8],
-    pub at: usize,
+    pub reader: Reader<'a>,
 }
 
 impl<'a> ReplyReader<'a> {
-    // A reader at the first result of a reply that was opened; at its end where it was refused.
-    pub fn new(reply: &'a [u8], o: Opened) -> Self
-        ensures { (result.reply ≡ reply.entry) × (result.at ≡ o.first) }
-    {
-        ReplyReader { reply, at: o.first }
-    }
-
-    // What stands at its place.
-    pub fn next(self) -> Step
-        ensures { of_step self.entry.reply.now result ≡ step self.entry.reply.now self.entry.at }
-    {
-        step(self.reply, self.at)
-    }
-
-    // The reader behind a result, at the place that was told with it.
-    pub fn moved(self, c: Cursor) -> Self
-        ensures { (result.reply ≡ self.entry.reply) × (result.at ≡ c.at) }
+    // A reader at the first result of a reply that was opened.
+    pub fn new(reply: &'a [u8], opened: Opened) -> Self
+        ensures { (result.reader.bytes ≡ reply.entry) × (result.reader.at ≡ opened.first) }
     {
         ReplyReader {
-            reply: self.reply,
-            at: c.at,
+            reader: Reader {
+                bytes: reply,
+                at: opened.first,
+            },
+        }
+    }
+
+    // The result at its place, or nothing behind the last one. It then stands behind the result, or where the fault is.
+    pub fn next(&mut self) -> Result<Option<OpResult>, Fault>
+        ensures value { of_step self.old.reader.bytes.now result self.new.reader.at ≡ step self.old.reader.bytes.now self.old.reader.at }
+        ensures done { result ≡ Ok None → self.new.reader.at ≡ self.old.reader.at }
+        ensures reply { self.new.reader.bytes ≡ self.old.reader.bytes }
+    {
+        step(&mut self.reader)
+    }
+
+    // A reader of the same reply at a place that was told.
+    pub fn moved(self, place: usize) -> Self
+        ensures { (result.reader.bytes ≡ self.entry.reader.bytes) × (result.reader.at ≡ place) }
+    {
+        ReplyReader {
+            reader: Reader {
+                bytes: self.reader.bytes,
+                at: place,
+            },
         }
     }
 
     // The bytes of a span, a part of the reply.
     pub fn part(self, d: Span) -> &'a [u8]
-        ensures { PartPromise self.entry.reply d result }
+        ensures { PartPromise self.entry.reader.bytes d result }
     {
-        xdr::part(self.reply, d)
+        xdr::part(self.reader.bytes, d)
     }
 
-    // The piece of READ_PLUS at a place of its reply.
-    pub fn piece(self, c: Cursor) -> PieceRead
-        ensures { of_piece self.entry.reply.now result ≡ piece_layout.read self.entry.reply.now c.at }
+    // The piece of READ_PLUS at its place. It then stands behind the piece, or where the fault is.
+    pub fn piece(&mut self) -> Option<Piece>
+        ensures value { parsed (of_piece self.old.reader.bytes.now) result self.new.reader.at ≡ piece_layout.read self.old.reader.bytes.now self.old.reader.at }
+        ensures reply { self.new.reader.bytes ≡ self.old.reader.bytes }
     {
-        body::piece(self.reply, c)
+        next_piece(&mut self.reader)
     }
-}
-
-// The same with plain parameters, so that a caller needs no walk: what stands first in a reply that was opened.
-pub fn next_at(reply: &[u8], o: Opened) -> Step
-    ensures { of_step reply.now result ≡ step reply.now o.first }
-{
-    ReplyReader::new(reply, o).next()
 }

@@ -1,63 +1,43 @@
 // Results, one at a time.
-ghost use Rattle.std.specs.Prelude.{◌≡◌};
-ghost use Rattle.rules.specs.Client.{body_by, result as result_at, step};
-ghost use Rattle.client.specs.Read.{of_body_read, of_result_read, of_step};
+ghost use Rattle.std.specs.Prelude.{◌≡◌, None, Ok};
+ghost use Rattle.xdr.specs.Reading.{parsed};
+ghost use Rattle.rules.specs.Client.{result as result_at, step};
+ghost use Rattle.client.specs.Read.{of_result, of_step};
 
-use crate::body::{BodyRead, ok_body};
-use crate::reply::{Body, OpResult, Step};
-use xdr::{Cursor, Word};
+use crate::body::ok_body;
+use crate::reply::{Body, Fault, OpResult};
+use xdr::Reader;
 
-// A result and the place behind it, or the place of the fault.
-#[derive(Clone, Copy)]
-pub enum ResultRead {
-    Found(OpResult, Cursor),
-    Fault(usize),
-}
-
-// The body of a result of operation n, behind its status e.
-fn body(s: &[u8], c: Cursor, n: u32, e: u32) -> BodyRead
-    ensures { of_body_read s.now result ≡ body_by n e s.now c.at }
+// The result at the reader's place. Where its status is not OK, its body is empty.
+#[tactic(auto, unfolding(rules::specs::Client::result))]
+pub fn read_result(r: &mut Reader<'_>) -> Option<OpResult>
+    ensures value { parsed (of_result r.old.bytes.now) result r.new.at ≡ result_at r.old.bytes.now r.old.at }
+    ensures bytes { r.new.bytes ≡ r.old.bytes }
 {
-    if e == 0 {
-        return ok_body(s, c, n);
-    }
-    BodyRead::Found(Body::Empty, c)
-}
-
-// The result that stands at `c`.
-pub fn read_result(s: &[u8], c: Cursor) -> ResultRead
-    ensures { of_result_read s.now result ≡ result_at s.now c.at }
-{
-    let n = c.word(s);
-    let Word::Value(number, c2) = n else {
-        return ResultRead::Fault(n.place());
+    let number = r.u32()?;
+    let status = r.u32()?;
+    let body = if status == 0 {
+        ok_body(r, number)?
+    } else {
+        Body::Empty
     };
-    let e = c2.word(s);
-    let Word::Value(status, c3) = e else {
-        return ResultRead::Fault(e.place());
-    };
-    match body(s, c3, number, status) {
-        BodyRead::Found(b, next) => ResultRead::Found(
-            OpResult {
-                number,
-                status,
-                body: b,
-            },
-            next,
-        ),
-        BodyRead::Fault(p) => ResultRead::Fault(p),
-    }
+    Some(OpResult {
+        number,
+        status,
+        body,
+    })
 }
 
-// What is handed out at place `at` of a reply.
-pub fn step(s: &[u8], at: usize) -> Step
-    ensures { of_step s.now result ≡ step s.now at }
+// What is handed out at the reader's place: a result, behind which the reader then stands; or nothing more.
+#[tactic(auto, unfolding(rules::specs::Client::step))]
+pub fn step(r: &mut Reader<'_>) -> Result<Option<OpResult>, Fault>
+    ensures value { of_step r.old.bytes.now result r.new.at ≡ step r.old.bytes.now r.old.at }
+    ensures done { result ≡ Ok None → r.new.at ≡ r.old.at }
+    ensures bytes { r.new.bytes ≡ r.old.bytes }
 {
-    if s.len() <= at {
-        return Step::Done;
+    if r.bytes.len() <= r.at {
+        return Ok(None);
     }
-    match read_result(s, Cursor::new(at)) {
-        ResultRead::Found(r, next) => Step::Handed(r, next),
-        ResultRead::Fault(p) => Step::Faulty(p),
-    }
+    let result = read_result(r).ok_or(Fault)?;
+    Ok(Some(result))
 }

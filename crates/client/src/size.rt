@@ -1,132 +1,99 @@
-// How long an operation is as written, its number included. One that can't be written is longer than any request.
-ghost use Rattle.std.specs.Prelude.{◌≡◌, cond, ◌&&◌};
+// How long an operation is as written, its number included; nothing where it can't be written.
+ghost use Rattle.std.specs.Prelude.{◌≡◌, ◌+◌, ◌*◌, ◌^◌, ◌≤◌, length, IfSome};
 ghost use Rattle.wire.specs.declared.operation.Operation.{Operation};
-ghost use Rattle.client.specs.Given.{lent_in, stateid_ok, TOO_LONG, op_size};
+ghost use Rattle.client.specs.Given.{lent_in, stateid_ok, op_size, ops_size};
 
-use crate::request::Wrote;
-use wire::{CloneArgs, CopyArgs, Operation, WriteArgs};
-use xdr::{Cursor, Span};
+use crate::request::Refusal;
+use wire::{CopyArgs, Operation, WriteArgs};
+use xdr::Span;
 
 fn is_lent(lent: &[u8], d: Span) -> bool
     ensures { result ≡ lent_in lent.now d }
 {
-    let start = d.start;
-    let len = d.len;
-    let n = lent.len();
-    if n < start {
-        return false;
-    }
-    len <= n - start
+    d.start <= lent.len() && d.len <= lent.len() - d.start
 }
 
 fn stateid_ok(lent: &[u8], d: Span) -> bool
     ensures { result ≡ stateid_ok lent.now d }
 {
-    if d.len != Operation::STATEID {
-        return false;
-    }
-    is_lent(lent, d)
+    d.len == Operation::STATEID && is_lent(lent, d)
 }
 
-// An operation of n bytes, whose stateid is d.
-fn with_stateid(lent: &[u8], d: Span, n: usize) -> usize
-    ensures { result ≡ cond (stateid_ok lent.now d) n TOO_LONG }
-{
-    if stateid_ok(lent, d) {
-        return n;
-    }
-    Wrote::TOO_LONG
-}
-
-fn get_attr_size(lent: &[u8], d: Span) -> usize
+#[tactic(auto, using(crate::proofs::WriteLaws::get_attr_size))]
+fn bitmap_size(lent: &[u8], d: Span) -> Option<usize>
     ensures { result ≡ op_size lent.now (Operation.GetAttr d) }
 {
-    let len = d.len;
-    if Wrote::MAX_BITMAP < len {
-        return Wrote::TOO_LONG;
+    if d.len > Refusal::MAX_BITMAP || d.len % 4 != 0 || !is_lent(lent, d) {
+        return None;
     }
-    if len % 4 != 0 {
-        return Wrote::TOO_LONG;
-    }
-    if is_lent(lent, d) {
-        return 8 + len;
-    }
-    Wrote::TOO_LONG
+    Some(8 + d.len)
 }
 
-fn put_fh_size(lent: &[u8], d: Span) -> usize
-    ensures { result ≡ op_size lent.now (Operation.PutFh d) }
+#[tactic(auto, using(crate::proofs::WriteLaws::put_fh_size))]
+fn handle_size(lent: &[u8], h: Span) -> Option<usize>
+    ensures { result ≡ op_size lent.now (Operation.PutFh h) }
 {
-    let len = d.len;
-    if Wrote::MAX_HANDLE < len {
-        return Wrote::TOO_LONG;
+    if h.len > Refusal::MAX_HANDLE || !is_lent(lent, h) {
+        return None;
     }
-    if is_lent(lent, d) {
-        return 8 + (len + xdr::padding(len));
-    }
-    Wrote::TOO_LONG
+    Some(8 + (h.len + xdr::padding(h.len)))
 }
 
-fn write_size(lent: &[u8], a: WriteArgs) -> usize
+#[tactic(auto, using(crate::proofs::WriteLaws::write_size))]
+fn write_size(lent: &[u8], a: WriteArgs) -> Option<usize>
     ensures { result ≡ op_size lent.now (Operation.Write a) }
 {
-    let d = a.data;
-    let len = d.len;
-    if Operation::MAX_STABLE < a.stable {
-        return Wrote::TOO_LONG;
+    let len = a.data.len;
+    if a.stable > Operation::MAX_STABLE || !stateid_ok(lent, a.stateid) || !is_lent(lent, a.data) {
+        return None;
     }
-    if Wrote::MAX_REQUEST < len {
-        return Wrote::TOO_LONG;
-    }
-    if !is_lent(lent, d) {
-        return Wrote::TOO_LONG;
-    }
-    let n = 36 + (len + xdr::padding(len));
-    if Wrote::MAX_REQUEST < n {
-        return Wrote::TOO_LONG;
-    }
-    with_stateid(lent, a.stateid, n)
+    u32::try_from(len).ok()?;
+    Some(36 + (len + xdr::padding(len)))
 }
 
-// Of COPY too, which has n bytes.
-fn clone_size(lent: &[u8], a: CloneArgs, n: usize) -> usize
-    ensures { result ≡ cond (stateid_ok lent.now a.source && stateid_ok lent.now a.target) n TOO_LONG }
-{
-    if stateid_ok(lent, a.source) {
-        return with_stateid(lent, a.target, n);
-    }
-    Wrote::TOO_LONG
-}
-
-fn copy_size(lent: &[u8], a: CopyArgs) -> usize
+#[tactic(auto, using(crate::proofs::WriteLaws::copy_size))]
+fn copy_size(lent: &[u8], a: CopyArgs) -> Option<usize>
     ensures { result ≡ op_size lent.now (Operation.Copy a) }
 {
-    if Cursor::MAX_BOOL < a.consecutive {
-        return Wrote::TOO_LONG;
+    if a.consecutive > 1 || a.synchronous > 1 {
+        return None;
     }
-    if Cursor::MAX_BOOL < a.synchronous {
-        return Wrote::TOO_LONG;
-    }
-    let c = a.clone;
-    clone_size(lent, c, 72)
+    (stateid_ok(lent, a.clone.source) && stateid_ok(lent, a.clone.target)).then_some(72)
 }
 
-pub fn op_size(lent: &[u8], o: Operation) -> usize
-    ensures { result ≡ op_size lent.now o }
+#[tactic(auto, using(crate::proofs::WriteLaws::op_sizes))]
+fn op_size(lent: &[u8], o: Operation) -> Option<usize>
+    ensures value { result ≡ op_size lent.now o }
+    ensures bound { IfSome result (λ n. n ≤ 2 ^ 32 + 38) }
 {
     match o {
-        Operation::GetAttr(d) => get_attr_size(lent, d),
-        Operation::GetFh => 4,
-        Operation::PutFh(h) => put_fh_size(lent, h),
-        Operation::Read(a) => with_stateid(lent, a.stateid, 32),
-        Operation::RestoreFh => 4,
-        Operation::SaveFh => 4,
+        Operation::GetAttr(d) => bitmap_size(lent, d),
+        Operation::GetFh | Operation::RestoreFh | Operation::SaveFh => Some(4),
+        Operation::PutFh(h) => handle_size(lent, h),
+        Operation::Read(a) | Operation::ReadPlus(a) | Operation::Seek(a) => {
+            stateid_ok(lent, a.stateid).then_some(32)
+        }
         Operation::Write(a) => write_size(lent, a),
-        Operation::Allocate(a) => with_stateid(lent, a.stateid, 36),
+        Operation::Allocate(a) | Operation::Deallocate(a) => {
+            stateid_ok(lent, a.stateid).then_some(36)
+        }
         Operation::Copy(a) => copy_size(lent, a),
-        Operation::Deallocate(a) => with_stateid(lent, a.stateid, 36),
-        Operation::ReadPlus(a) => with_stateid(lent, a.stateid, 32),
-        Operation::Seek(a) => with_stateid(lent, a.stateid, 32),
-        Operation::Clone(a) => clone_size(lent, a, 60),
+        Operation::Clone(a) => {
+            (stateid_ok(lent, a.source) && stateid_ok(lent, a.target)).then_some(60)
+        }
     }
+}
+
+// How long at most twelve operations are.
+#[tactic(auto, using(crate::proofs::RequestLaws::left_writable, crate::proofs::RequestLaws::left_length), unfolding(crate::specs::Given::op_size))]
+pub fn ops_size(lent: &[u8], ops: &[Operation]) -> Option<usize>
+    requires { length ops.now ≤ 12 }
+    ensures value { result ≡ ops_size lent.now ops.now }
+    ensures bound { IfSome result (λ n. n ≤ 12 * (2 ^ 32 + 38)) }
+{
+    let mut total = 0;
+    for o in ops {
+        total += op_size(lent, *o)?;
+    }
+    Some(total)
 }

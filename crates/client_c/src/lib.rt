@@ -2,15 +2,19 @@
 #![tactic(auto)]
 
 ghost use Rattle.std.specs.Prelude.{◌≡◌};
-ghost use Rattle.client.specs.declared.reply.Body.{Body};
 ghost use Rattle.client.specs.Records.{given_records};
 ghost use Rattle.client_c.specs.Told.{RequestPromise, OpenedPromise, body_numbers, StepPromise, PiecePromise};
 
-use client::{
-    AttrsBody, Body, CopiedBody, Opened, PieceRead, Step, WrittenBody, next_at, open_reply, piece,
-    write_records,
-};
-use xdr::Cursor;
+use client::{Body, Piece, next_piece, open_reply, step, write_records};
+use xdr::{Reader, Span};
+
+// Behind the last result.
+const DONE: u32 = 1;
+
+// The reply is not one to the request, or no result or piece stands at a place.
+const NOT_OPENED: u32 = 10;
+
+const NO_STATUS: u64 = 4294967295;
 
 // Writes a request: 0, or refusal 9 or 11.
 #[unsafe(no_mangle)]
@@ -24,9 +28,16 @@ pub extern "C" fn client_write_request(
     ensures { RequestPromise tag.now (given_records lent.now operations.now) request.old
         result written.new request.new }
 {
-    let w = write_records(tag, operations, lent, request);
-    *written = [w.written as u64];
-    w.number
+    match write_records(tag, operations, lent, request) {
+        Ok(size) => {
+            *written = [size as u64];
+            0
+        }
+        Err(refusal) => {
+            *written = [0];
+            refusal.number()
+        }
+    }
 }
 
 // Opens a reply: 0, or refusal 10. `told` gets its status and the place of its first result.
@@ -39,73 +50,57 @@ pub extern "C" fn client_open_reply(
 ) -> u32
     ensures { OpenedPromise tag.now numbers.now reply.now result told.new }
 {
-    let o = open_reply(tag, numbers, reply);
-    *told = [o.status as u64, o.first as u64];
-    o.number
-}
-
-// The numbers of bodies.
-fn attrs_numbers(a: AttrsBody) -> [u64; 7]
-    ensures { result ≡ body_numbers (Body.Attrs a) }
-{
-    let b = a.bitmap;
-    let v = a.values;
-    [
-        b.start as u64,
-        b.len as u64,
-        v.start as u64,
-        v.len as u64,
-        0,
-        0,
-        0,
-    ]
-}
-
-fn written_numbers(a: WrittenBody) -> [u64; 7]
-    ensures { result ≡ body_numbers (Body.Written a) }
-{
-    let v = a.verifier;
-    [
-        a.count as u64,
-        a.committed as u64,
-        v.start as u64,
-        v.len as u64,
-        0,
-        0,
-        0,
-    ]
-}
-
-fn copied_numbers(a: CopiedBody) -> [u64; 7]
-    ensures { result ≡ body_numbers (Body.Copied a) }
-{
-    let v = a.verifier;
-    [
-        a.count,
-        a.committed as u64,
-        v.start as u64,
-        v.len as u64,
-        a.consecutive as u64,
-        a.synchronous as u64,
-        0,
-    ]
-}
-
-fn body_numbers(b: Body) -> [u64; 7]
-    ensures { result ≡ body_numbers b }
-{
-    match b {
-        Body::Empty => [0; 7],
-        Body::Attrs(a) => attrs_numbers(a),
-        Body::Handle(d) => [d.start as u64, d.len as u64, 0, 0, 0, 0, 0],
-        Body::FileData(a) => {
-            let d = a.data;
-            [a.eof as u64, d.start as u64, d.len as u64, 0, 0, 0, 0]
+    match open_reply(tag, numbers, reply) {
+        Ok(opened) => {
+            *told = [u64::from(opened.status), opened.first as u64];
+            0
         }
-        Body::Written(a) => written_numbers(a),
-        Body::Copied(a) => copied_numbers(a),
-        Body::Pieces(a) => [a.eof as u64, a.count as u64, a.first.at as u64, 0, 0, 0, 0],
-        Body::Sought(a) => [a.eof as u64, a.offset, 0, 0, 0, 0, 0],
+        Err(_) => {
+            *told = [NO_STATUS, reply.len() as u64];
+            NOT_OPENED
+        }
+    }
+}
+
+// Where a span starts, and how long it is.
+fn wide(d: Span) -> (u64, u64)
+    ensures { (result.0 ≡ d.start) × (result.1 ≡ d.len) }
+{
+    (d.start as u64, d.len as u64)
+}
+
+fn body_numbers(body: Body) -> [u64; 7]
+    ensures { result ≡ body_numbers body }
+{
+    match body {
+        Body::Empty => [0; 7],
+        Body::Attrs(a) => {
+            let ((bitmap, size), (values, len)) = (wide(a.bitmap), wide(a.values));
+            [bitmap, size, values, len, 0, 0, 0]
+        }
+        Body::Handle(d) => {
+            let (start, len) = wide(d);
+            [start, len, 0, 0, 0, 0, 0]
+        }
+        Body::FileData(a) => {
+            let (start, len) = wide(a.data);
+            [u64::from(a.eof), start, len, 0, 0, 0, 0]
+        }
+        Body::Written(a) => {
+            let (start, len) = wide(a.verifier);
+            let (count, committed) = (u64::from(a.count), u64::from(a.committed));
+            [count, committed, start, len, 0, 0, 0]
+        }
+        Body::Copied(a) => {
+            let (committed, (start, len)) = (u64::from(a.committed), wide(a.verifier));
+            let (consecutive, synchronous) = (u64::from(a.consecutive), u64::from(a.synchronous));
+            [a.count, committed, start, len, consecutive, synchronous, 0]
+        }
+        Body::Pieces(a) => {
+            let (eof, count) = (u64::from(a.eof), u64::from(a.count));
+            [eof, count, a.first as u64, 0, 0, 0, 0]
+        }
+        Body::Sought(a) => [u64::from(a.eof), a.offset, 0, 0, 0, 0, 0],
     }
 }
 
@@ -114,31 +109,24 @@ fn body_numbers(b: Body) -> [u64; 7]
 pub extern "C" fn client_next_result(reply: &[u8], at: u64, told: &mut [u64; 10]) -> u32
     ensures { StepPromise reply.now at result told.new }
 {
-    match next_at(reply, Opened::from(at as usize)) {
-        Step::Handed(r, next) => {
-            let body = r.body;
-            let b = body_numbers(body);
-            *told = [
-                r.number as u64,
-                r.status as u64,
-                next.at as u64,
-                b[0],
-                b[1],
-                b[2],
-                b[3],
-                b[4],
-                b[5],
-                b[6],
-            ];
+    let mut r = Reader {
+        bytes: reply,
+        at: at as usize,
+    };
+    match step(&mut r) {
+        Ok(Some(result)) => {
+            let [a, b, c, d, e, f, g] = body_numbers(result.body);
+            let (number, status) = (u64::from(result.number), u64::from(result.status));
+            *told = [number, status, r.at as u64, a, b, c, d, e, f, g];
             0
         }
-        Step::Done => {
+        Ok(None) => {
             *told = [0; 10];
-            Opened::DONE
+            DONE
         }
-        Step::Faulty(_) => {
+        Err(_) => {
             *told = [0; 10];
-            Opened::NOT_OPENED
+            NOT_OPENED
         }
     }
 }
@@ -148,24 +136,23 @@ pub extern "C" fn client_next_result(reply: &[u8], at: u64, told: &mut [u64; 10]
 pub extern "C" fn client_next_piece(reply: &[u8], at: u64, told: &mut [u64; 5]) -> u32
     ensures { PiecePromise reply.now at result told.new }
 {
-    match piece(reply, Cursor::new(at as usize)) {
-        PieceRead::Data(p, next) => {
-            *told = [
-                0,
-                p.offset,
-                p.data.len as u64,
-                p.data.start as u64,
-                next.at as u64,
-            ];
+    let mut r = Reader {
+        bytes: reply,
+        at: at as usize,
+    };
+    match next_piece(&mut r) {
+        Some(Piece::Data(p)) => {
+            let (start, len) = wide(p.data);
+            *told = [0, p.offset, len, start, r.at as u64];
             0
         }
-        PieceRead::Hole(p, next) => {
-            *told = [1, p.offset, p.length, 0, next.at as u64];
+        Some(Piece::Hole(p)) => {
+            *told = [1, p.offset, p.length, 0, r.at as u64];
             0
         }
-        PieceRead::Fault(_) => {
+        None => {
             *told = [0; 5];
-            Opened::NOT_OPENED
+            NOT_OPENED
         }
     }
 }

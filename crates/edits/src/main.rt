@@ -102,7 +102,7 @@ fn serve_line(
 ) -> usize
     requires { 4096 ≤ length request.old }
 {
-    let Request::Bytes(n) = frame::request_bytes(line, request) else {
+    let Some(n) = frame::request_bytes(line, request) else {
         return put_number(7, text);
     };
     let verifier = [0u8; Served::VERIFIER];
@@ -239,7 +239,7 @@ fn geometry_asked(line: &[u8], numbers: &mut [u8]) -> Geometry
     if line.len() != 17 {
         return geometry_in(0, 0);
     }
-    let Request::Bytes(_) = frame::request_bytes(&line[1..], numbers) else {
+    let Some(_) = frame::request_bytes(&line[1..], numbers) else {
         return geometry_in(0, 0);
     };
     let Word::Value(first, c) = Cursor::new(0).word(numbers) else {

@@ -1,5 +1,5 @@
 -- Laws on two lines compared: how far they are alike, and the byte where they part.
-use Prim.Native.Nat.{ℕ, suc, ◌+◌, ◌-◌, ◌/◌, ◌≤◌, ◌<◌, min}
+use Prim.Native.Nat.{ℕ, suc, ◌+◌, ◌≤◌, ◌<◌, min}
 use mathlib.Core.Path.{◌≡◌, refl, sym, ap, ◌∙◌}
 use mathlib.Core.Bool.{Bool, true, false, cond}
 use mathlib.Core.List.{List, [], ◌∷◌, ◌++◌, append-nil}
@@ -10,22 +10,9 @@ use native.Mathlib.Omega.{arith}
 use lib.ListN.{length, get_or, take, drop, drop_of_length-le, take-append-drop}
 use lib.Seq.{drop-cons, length-take-le}
 use lib.Dec.{ltb, eqb}
-use borrow.Author.Tests.{le-leb, lt-leb, ltb-true, ltb-false, eq-eqb, ne_eqb}
+use borrow.Author.Tests.{ltb-true, ltb-false, eq-eqb, ne_eqb}
 use Rattle.frame.specs.Recording.{lower, alike}
 use Rattle.frame.specs.Blocks.{Same}
-use Rattle.frame.specs.Judging.{place_in}
-
--- ---- a letter in lower case
-
-module _ (c : ℕ) where
-  pub lower_letter : 65 ≤ c → c ≤ 70 → c + 32 ≡ lower c
-  lower_letter h k = rw (le-leb 65 c h, le-leb c 70 k)
-
-  pub lower-below : c < 65 → c ≡ lower c
-  lower-below h = rw (lt-leb 65 c h)
-
-  pub lower-above : 70 < c → c ≡ lower c
-  lower-above h = rw (le-leb 65 c (omega arith), lt-leb c 70 h)
 
 -- ---- how far two lines are alike
 
@@ -89,14 +76,12 @@ alike_common [] a b = sym (zero-add (alike a b))
 alike_common (c ∷ x) a b = rw (eq-eqb (lower c) (lower c) refl) (omega (arith, alike_common x a b))
 
 -- what is the same as it stands is alike
-pub alike-start : (a b : List ℕ) {n i : ℕ} → n ≤ length a → n ≤ length b → Same a b n 0 i → AlikeLeft a b i
-alike-start a b {n} {i} h k s =
-    let z : i - 0 ≡ i = omega arith in
-    let e : take i a ≡ take i b = rw z at s.same in
+pub alike_start : (a b : List ℕ) {n i : ℕ} → n ≤ length a → n ≤ length b → Same a b n i → AlikeLeft a b i
+alike_start a b {n} {i} h k s =
     let m = length-take-le i a (omega (arith, s.within)) in
     let q = alike_common (take i a) (drop i a) (drop i b) in
     let l = ap (λ (x : List ℕ). alike x (take i a ++ drop i b)) (take-append-drop i a) in
-    let r = ap (alike a) (ap (λ (x : List ℕ). x ++ drop i b) e ∙ take-append-drop i b) in
+    let r = ap (alike a) (ap (λ (x : List ℕ). x ++ drop i b) s.same ∙ take-append-drop i b) in
     record { within_a = omega (arith, s.within); within_b = omega (arith, s.within); same = omega (arith, m, q, l, r) }
 
 module _ {a b : List ℕ} {i : ℕ} (left : AlikeLeft a b i) where
@@ -105,8 +90,8 @@ module _ {a b : List ℕ} {i : ℕ} (left : AlikeLeft a b i) where
     unfolding alike
     here = rw (drop-cons a i 0 h, drop-cons b i 0 k)
 
-    pub alike-more : lower (get_or a i 0) ≡ lower (get_or b i 0) → AlikeLeft a b (i + 1)
-    alike-more e =
+    pub alike_more : lower (get_or a i 0) ≡ lower (get_or b i 0) → AlikeLeft a b (i + 1)
+    alike_more e =
         let q = here ∙ ap (λ t. cond t (suc (alike (drop (suc i) a) (drop (suc i) b))) 0) (eq-eqb (lower (get_or a i 0)) (lower (get_or b i 0)) e) in
         record {
           within_a = omega arith;
@@ -114,8 +99,8 @@ module _ {a b : List ℕ} {i : ℕ} (left : AlikeLeft a b i) where
           same = rw (add-one i) (let z : suc i + alike (drop (suc i) a) (drop (suc i) b) ≡ i + alike (drop i a) (drop i b) = omega (arith, q) in z ∙ left.same);
         }
 
-    pub alike-stop : lower (get_or a i 0) ≢ lower (get_or b i 0) → i ≡ alike a b
-    alike-stop e =
+    pub alike_stop : lower (get_or a i 0) ≢ lower (get_or b i 0) → i ≡ alike a b
+    alike_stop e =
         let q = here ∙ ap (λ t. cond t (suc (alike (drop (suc i) a) (drop (suc i) b))) 0) (ne_eqb (lower (get_or a i 0)) (lower (get_or b i 0)) e) in
         omega (arith, q, left.same)
 
@@ -133,23 +118,6 @@ module _ {a b : List ℕ} {i : ℕ} (left : AlikeLeft a b i) where
           let k : length b ≤ i = omega (arith, ltb-false (length a) (length b) t) in
           let z : alike (drop i a) (drop i b) ≡ 0 = rw (drop_of_length-le b k) (alike-nil (drop i a)) in
           omega (arith, z, left.same)
-
--- ---- the byte of a difference
-
-pub place-empty : (a : List ℕ) (n : ℕ) → length a ≡ 0 → n / 2 ≡ place_in a n
-unfolding place_in
-place-empty [] n h = refl
-place-empty (x ∷ xs) n h = absurd (omega arith)
-
-pub place-refusal : (a : List ℕ) (n : ℕ) → length a ≢ 0 → get_or a 0 0 ≡ 45 → 0 ≡ place_in a n
-unfolding place_in
-place-refusal [] n h e = absurd (h refl)
-place-refusal (x ∷ xs) n h e = rw (eq-eqb x 45 e)
-
-pub place-digits : (a : List ℕ) (n : ℕ) → length a ≢ 0 → get_or a 0 0 ≢ 45 → n / 2 ≡ place_in a n
-unfolding place_in
-place-digits [] n h e = absurd (h refl)
-place-digits (x ∷ xs) n h e = rw (ne_eqb x 45 e)
 
 -- ---- a line that begins with another
 

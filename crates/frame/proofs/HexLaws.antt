@@ -1,71 +1,20 @@
--- Laws on hexadecimal: the value of a digit, the bytes of the digits that are left, and the digits of bytes.
-use Prim.Native.Nat.{ℕ, suc, ◌+◌, ◌-◌, ◌*◌, ◌/◌, ◌%◌, ◌≤◌, ◌<◌}
+-- Laws on hexadecimal: the bytes of the digits that are left, and the digits of bytes.
+use Prim.Native.Nat.{ℕ, suc, ◌+◌, ◌*◌, ◌/◌, ◌%◌, ◌≤◌, ◌<◌}
 use mathlib.Core.Path.{◌≡◌, refl, sym, ap, ◌∙◌}
-use mathlib.Core.Bool.{Bool, true, false, cond, ◌&&◌}
 use mathlib.Core.Option.{Option, none, some}
+use Rattle.std.specs.Prelude.{Some, None}
 use mathlib.Core.List.{List, [], ◌∷◌, ◌++◌, append_assoc, append-nil}
-use native.Mathlib.Nat.{add-zero}
+use native.Mathlib.Nat.{add-zero, zero-add}
 use native.Mathlib.Numerals.{add-one}
 use native.Mathlib.Omega.{arith}
 use lib.ListN.{length, get_or, set, take, drop, length-set, drop_of_length-le, take-append-drop}
 use lib.Seq.{append_snoc, drop-cons, set_split, sets-eq, take-suc-set}
-use lib.Dec.{leb}
-use borrow.Author.Tests.{le-leb, lt-leb, leb-true, lt-ltb, le-ltb}
-use Rattle.xdr.specs.Bytes.{splice, Written}
+use borrow.Author.Tests.{lt-ltb, le-ltb}
+use Rattle.xdr.specs.Bytes.{splice}
 use Rattle.xdr.proofs.BytesLaws.{splice-splice}
-use Rattle.xdr.proofs.BoolLaws.{and_right}
-use Rattle.frame.specs.declared.hex.Request.{Request}
-use Rattle.rules.specs.Line.{digit_value, byte_of, byte_front, line_bytes, byte_digits, hex_line, request_of}
+use Rattle.rules.specs.Line.{digit_value, byte_of, byte_front, line_bytes, digit, byte_digits, hex_line, request_of}
 use Rattle.frame.specs.Hex.{front_of, good_bytes, stored_bytes, RequestRead}
-
--- ---- the value of a digit
-
-module _ (lo hi c : ℕ) where
-  inside : lo ≤ c → c ≤ hi → leb lo c && leb c hi ≡ true
-  inside h k = rw (le-leb lo c h, le-leb c hi k)
-
-  below : c < lo → leb lo c && leb c hi ≡ false
-  below h = rw (lt-leb lo c h)
-
-  above : lo ≤ c → hi < c → leb lo c && leb c hi ≡ false
-  above h k = rw (le-leb lo c h, lt-leb c hi k)
-
-module _ (c : ℕ) where
-  pub digit_09 : 48 ≤ c → c ≤ 57 → some (c - 48) ≡ digit_value c
-  digit_09 h k = rw (inside 48 57 c h k)
-
-  pub digit_af : 97 ≤ c → c ≤ 102 → some (c - 97 + 10) ≡ digit_value c
-  digit_af h k = rw (above 48 57 c (omega arith) (omega arith), inside 97 102 c h k) (ap some (omega arith))
-
-  pub digit_AF : 65 ≤ c → c ≤ 70 → some (c - 65 + 10) ≡ digit_value c
-  digit_AF h k = rw (above 48 57 c (omega arith) (omega arith), below 97 102 c (omega arith), inside 65 70 c h k) (ap some (omega arith))
-
-  pub no_digit_below_0 : c < 48 → none ≡ digit_value c
-  no_digit_below_0 h = rw (below 48 57 c h, below 97 102 c (omega arith), below 65 70 c (omega arith))
-
-  pub no_digit_9_A : 57 < c → c < 65 → none ≡ digit_value c
-  no_digit_9_A h k = rw (above 48 57 c (omega arith) h, below 97 102 c (omega arith), below 65 70 c k)
-
-  pub no_digit_F_a : 70 < c → c < 97 → none ≡ digit_value c
-  no_digit_F_a h k = rw (above 48 57 c (omega arith) (omega arith), below 97 102 c k, above 65 70 c (omega arith) h)
-
-  pub no_digit_above_f : 102 < c → none ≡ digit_value c
-  no_digit_above_f h = rw (above 48 57 c (omega arith) (omega arith), above 97 102 c (omega arith) h, above 65 70 c (omega arith) (omega arith))
-
--- a digit's value is below 16
-abbrev pub Small : Option ℕ → Type 0
-Small none = Unit {0}
-Small (some h) = h < 16
-
-small-cond : (t : Bool) (x y : Option ℕ) → (t ≡ true → Small x) → Small y → Small (cond t x y)
-small-cond true x y f s = f refl
-small-cond false x y f s = s
-
-pub digit-small : (c : ℕ) → Small (digit_value c)
-digit-small c =
-    small-cond (leb 48 c && leb c 57) _ _ (λ t. omega (arith, leb-true c 57 (and_right (leb 48 c) (leb c 57) t)))
-    (small-cond (leb 97 c && leb c 102) _ _ (λ t. omega (arith, leb-true c 102 (and_right (leb 97 c) (leb c 102) t)))
-    (small-cond (leb 65 c && leb c 70) _ _ (λ t. omega (arith, leb-true c 70 (and_right (leb 65 c) (leb c 70) t))) tt))
+use Rattle.frame.specs.Printing.{Printed}
 
 -- ---- the bytes of a line
 
@@ -127,31 +76,25 @@ pub record BytesLeft (line out₀ out : List ℕ) (i : ℕ) : Type 0 where
   pub same : bytes_front (take i out) (line_bytes (drop (2 * i) line)) ≡ line_bytes line
   pub stored : splice out i (good_bytes (drop (2 * i) line)) ≡ splice out₀ 0 (good_bytes line)
 
-pub bytes-start : (line out : List ℕ) → BytesLeft line out out 0
-bytes-start line out = record { within = omega arith; long = refl; same = front-none (line_bytes line); stored = refl }
-
 -- ---- what the reader of a line answers
 
 request-is : (l : List ℕ) → length l ≤ 8192 → request_of l ≡ line_bytes l
 unfolding request_of
 request-is l h = rw (le-ltb 8192 (length l) h)
 
-refused : {line before out : List ℕ} → request_of line ≡ none → out ≡ splice before 0 (stored_bytes line) → RequestRead line before out Request.Refused
-refused e s = record { bytes = e; half = λ n p. absurd (no n p); within = λ n p. absurd (no n p); left = s }
-  where
-    no : (n : ℕ) → Request.Refused ≡ Request.Bytes n → ⊥
-    no n p = let z : ◌≡◌ {A = ℕ} 0 1 = cc in omega arith
+refused : {line before out : List ℕ} → request_of line ≡ none → out ≡ splice before 0 (stored_bytes line) → RequestRead line before out None
+refused e s = record { bytes = e; half = tt; within = tt; left = s }
 
 -- a line that is read at all
 stored_is : (line : List ℕ) → length line ≤ 8192 → length line % 2 ≡ 0 → stored_bytes line ≡ good_bytes line
 unfolding stored_bytes
 stored_is line few even = rw (le-ltb 8192 (length line) few, even)
 
-pub refused-long : (line out : List ℕ) → 8192 < length line → RequestRead line out out Request.Refused
+pub refused-long : (line out : List ℕ) → 8192 < length line → RequestRead line out out None
 unfolding request_of stored_bytes
 refused-long line out h = refused (rw (lt-ltb 8192 (length line) h)) (rw (lt-ltb 8192 (length line) h) (sym (splice-nothing out 0)))
 
-pub refused-odd : (line out : List ℕ) → length line ≤ 8192 → length line % 2 ≡ 1 → RequestRead line out out Request.Refused
+pub refused-odd : (line out : List ℕ) → length line ≤ 8192 → length line % 2 ≡ 1 → RequestRead line out out None
 unfolding stored_bytes
 refused-odd line out h k = refused (request-is line h ∙ bytes-odd line k) (rw (le-ltb 8192 (length line) h, k) (sym (splice-nothing out 0)))
 
@@ -160,15 +103,15 @@ module _ {line out₀ out : List ℕ} {i : ℕ} (left : BytesLeft line out₀ ou
   stored-all : length line ≤ 8192 → length line % 2 ≡ 0 → good_bytes (drop (2 * i) line) ≡ [] → out ≡ splice out₀ 0 (stored_bytes line)
   stored-all few even e = rw (stored_is line few even) (sym (splice-nothing out i) ∙ ap (splice out i) (sym e) ∙ left.stored)
 
-  pub read_all : length line ≤ 8192 → length line % 2 ≡ 0 → length line / 2 ≤ i → RequestRead line out₀ out (Request.Bytes (length line / 2))
+  pub read_all : length line ≤ 8192 → length line % 2 ≡ 0 → length line / 2 ≤ i → RequestRead line out₀ out (Some (length line / 2))
   unfolding line_bytes good_bytes
   read_all few even h =
       let e : length line / 2 ≡ i = omega (arith, left.within) in
       let past : length line ≤ 2 * i = omega arith in
       record {
         bytes = request-is line few ∙ sym left.same ∙ rw (e, drop_of_length-le line past) (ap some (append-nil (take i out)));
-        half = λ n p. let q : length line / 2 ≡ n = cc in sym q;
-        within = λ n p. let q : length line / 2 ≡ n = cc in omega arith;
+        half = refl;
+        within = omega arith;
         left = stored-all few even (rw (drop_of_length-le line past));
       }
 
@@ -193,7 +136,7 @@ module _ {line out₀ out : List ℕ} {i : ℕ} (left : BytesLeft line out₀ ou
       stored = set-splice out i b (good_bytes (drop (2 * (i + 1)) line)) k ∙ ap (splice out i) (sym (good-split e)) ∙ left.stored;
     }
 
-    pub refused-digit : length line ≤ 8192 → length line % 2 ≡ 0 → here ≡ none → RequestRead line out₀ out Request.Refused
+    pub refused-digit : length line ≤ 8192 → length line % 2 ≡ 0 → here ≡ none → RequestRead line out₀ out None
     refused-digit few even e = refused (request-is line few ∙ sym (split e)) (stored-all few even (good-split e))
 
 -- ---- the digits of bytes
@@ -213,29 +156,30 @@ length-hex [] = refl
 length-hex (b ∷ bs) = omega (arith, length-hex bs)
 
 -- the digits of i bytes are written; with those of the bytes left they are the whole line
-pub record HexLeft (bs out₀ out : List ℕ) (at i : ℕ) : Type 0 where
+pub record HexLeft (bs out₀ out : List ℕ) (i : ℕ) : Type 0 where
   pub within : i ≤ length bs
-  pub place : at ≡ 2 * i
   pub long : length out ≡ length out₀
-  pub same : splice out at (hex_line (drop i bs)) ≡ splice out₀ 0 (hex_line bs)
+  pub same : splice out (2 * i) (hex_line (drop i bs)) ≡ splice out₀ 0 (hex_line bs)
 
-pub hex-start : (bs out : List ℕ) → HexLeft bs out out 0 0
-hex-start bs out = record { within = omega arith; place = refl; long = refl; same = refl }
+module _ {bs out₀ out : List ℕ} {i : ℕ} (left : HexLeft bs out₀ out i) where
+  pub hex-more : {h l : ℕ} → i < length bs → 2 * length bs ≤ length out₀ → h ≡ digit (get_or bs i 0 / 16) → l ≡ digit (get_or bs i 0 % 16)
+      → HexLeft bs out₀ (set (set out (2 * i) h) (2 * i + 1) l) (i + 1)
+  hex-more {h} {l} k room p q =
+      let e : 2 * (i + 1) ≡ 2 * i + 2 = omega arith in
+      let two = put2 out (2 * i) h l (omega (arith, left.long)) in
+      record {
+        within = omega arith;
+        long = length-set (set out (2 * i) h) (2 * i + 1) l ∙ length-set out (2 * i) h ∙ left.long;
+        same =
+            rw (e, two, p, q) (splice-splice out (2 * i) (byte_digits (get_or bs i 0)) (hex_line (drop (i + 1) bs)) (omega (arith, left.long))
+            ∙ ap (splice out (2 * i)) (sym (hex-drop bs i k)) ∙ left.same);
+      }
 
-module _ {bs out₀ out : List ℕ} {at i : ℕ} (left : HexLeft bs out₀ out at i) where
-  pub hex-more : {out' : List ℕ} {p : ℕ} → i < length bs → at ≤ length out → Written (byte_digits (get_or bs i 0)) 2 at out out' p → length out' ≡ length out
-      → HexLeft bs out₀ out' p (i + 1)
-  hex-more {out'} {p} h k w l = record {
-    within = omega arith;
-    place = omega (arith, w.place, left.place);
-    long = l ∙ left.long;
-    same = rw (w.bytes, w.place) (splice-splice out at (byte_digits (get_or bs i 0)) (hex_line (drop (i + 1) bs)) k ∙ ap (splice out at) (sym (hex-drop bs i h)) ∙ left.same);
-  }
-
-  pub hex-end : length bs ≤ i → Written (hex_line bs) (2 * length bs) 0 out₀ out at
+  pub hex_end : length bs ≤ i → Printed (hex_line bs) out₀ (2 * length bs) out
   unfolding hex_line splice
-  hex-end h = record {
-    bytes = sym (take-append-drop at out) ∙ rw (drop_of_length-le bs h, add-zero at) at left.same;
-    size = length-hex bs;
-    place = omega (arith, left.within, left.place);
-  }
+  hex_end h =
+      let n = length-hex bs in
+      record {
+        length_is = sym n;
+        out_is = sym (take-append-drop (2 * i) out) ∙ (rw (drop_of_length-le bs h, add-zero (2 * i)) at left.same) ∙ ap (λ (m : ℕ). hex_line bs ++ drop m out₀) (zero-add (length (hex_line bs)));
+      }

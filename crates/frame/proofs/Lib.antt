@@ -2,7 +2,6 @@ pub mod AlikeLaws
 pub mod BlockLaws
 pub mod HexLaws
 pub mod JudgeLaws
-pub mod LineEnds
 pub mod LineLaws
 pub mod PrintLaws
 pub mod ReadLaws

@@ -3,29 +3,23 @@ use Prim.Native.Nat.{ℕ, zero, suc, ◌*◌, ◌≤◌, ◌<◌}
 use mathlib.Core.Path.{◌≡◌, refl, sym, ap, ◌∙◌}
 use mathlib.Core.Bool.{Bool, true, false, cond}
 use mathlib.Core.Option.{Option, none, some}
-use mathlib.Core.List.{List, [], ◌++◌}
+use mathlib.Core.List.{List, ◌++◌}
 use mathlib.Core.Logic.{◌≢◌}
-use native.Mathlib.Nat.{zero-add}
 use native.Mathlib.Omega.{arith}
 use lib.ListN.{length, take, drop, replicate, length-replicate, length-take}
 use lib.Seq.{length-take-le, take_at}
-use lib.Dec.{ltb, eqb}
-use borrow.Author.Tests.{lt-ltb, le-ltb, eq-eqb, ne_eqb}
-use Rattle.xdr.specs.Bytes.{splice, Written}
+use lib.Dec.{eqb}
+use borrow.Author.Tests.{le-ltb, eq-eqb, ne_eqb}
 use Rattle.rules.specs.Store.{Geometry, Store}
 use Rattle.rules.specs.Calls.{Outcome, answer, Contract}
 use Rattle.rules.specs.Line.{hex_line, request_of, frame_geometry, frame_call, refusal_line, answer_request, answer_line}
 use Rattle.rules.proofs.AnswerLaws.{refused-number, reply-bound, reply-length}
 use Rattle.rules.specs.Run.{config}
-use Rattle.frame.specs.declared.hex.Request.{Request}
-use Rattle.frame.specs.Hex.{of_request, RequestRead}
+use Rattle.std.specs.Prelude.{Some, None}
+use Rattle.frame.specs.Hex.{RequestRead}
+use Rattle.frame.specs.Printing.{Printed}
 use Rattle.frame.specs.LineCall.{line_into, LinePromise}
 use Rattle.frame.proofs.HexLaws.{length-hex}
-
--- written from the first byte on, bytes past them unchanged
-pub whole : {bs : List ℕ} {k n : ℕ} {out after : List ℕ} → Written bs k 0 out after n → (after ≡ bs ++ drop (length bs) out) × (n ≡ length bs)
-unfolding splice
-whole {bs} {out = out} w = (w.bytes ∙ ap (λ (k : ℕ). bs ++ drop k out) (zero-add (length bs)), omega (arith, w.place, w.size))
 
 -- ---- a request
 
@@ -54,53 +48,36 @@ module _ (s : List ℕ) (st : Store) {o : Outcome Store} (k : Contract (frame_ca
   digits-fit h = omega (arith, length-take-le o.written o.reply written_fits, written_small)
 
   module _ {out after : List ℕ} {n : ℕ} where
-    pub request-refused : o.number ≢ 0 → Written (refusal_line o.number) 2 0 out after n → LinePromise (answer_request st s) out n after o.store
+    pub request-refused : o.number ≢ 0 → Printed (refusal_line o.number) out n after → LinePromise (answer_request st s) out n after o.store
     unfolding answer_request answer
     request-refused h w =
         let e = ne_eqb (answer (frame_call s) st).number 0 (λ z. h (k.number ∙ z)) in
         rw e (record {
-          length_is = (whole w).1;
-          out_is = (whole w).0 ∙ ap (λ m. refusal_line m ++ drop 2 out) k.number;
+          length_is = w.length_is;
+          out_is = w.out_is ∙ ap (λ m. refusal_line m ++ drop 2 out) k.number;
           sizes_are = k.sizes;
           words_are = k.words;
           mem_is = k.mem;
         })
 
-    pub request-served : {m : ℕ} → o.number ≡ 0 → Written (hex_line (take o.written o.reply)) m 0 out after n
+    pub request-served : o.number ≡ 0 → Printed (hex_line (take o.written o.reply)) out n after
         → LinePromise (answer_request st s) out n after o.store
     unfolding answer_request answer
     request-served h w =
         let e = eq-eqb (answer (frame_call s) st).number 0 (sym k.number ∙ h) in
-        rw (e, ← k.written, ← k.reply) (record { length_is = (whole w).1; out_is = (whole w).0; sizes_are = k.sizes; words_are = k.words; mem_is = k.mem })
+        rw (e, ← k.written, ← k.reply) (record { length_is = w.length_is; out_is = w.out_is; sizes_are = k.sizes; words_are = k.words; mem_is = k.mem })
 
 -- ---- a line
 
-module _ {l buffer req : List ℕ} {r : Request} (read : RequestRead l buffer req r) where
-  pub bytes_fit : {k : ℕ} → r ≡ Request.Bytes k → 4096 ≤ length req → k ≤ length req
-  bytes_fit {k} e h = omega (arith, read.within k e)
+module _ {l buffer req : List ℕ} (st : Store) {out after : List ℕ} {n : ℕ} where
+  pub line_refused : RequestRead l buffer req None → Printed (refusal_line 7) out n after → LinePromise (answer_line st l) out n after st
+  unfolding answer_line
+  line_refused read w = rw (read.bytes, answer_line) (record { length_is = w.length_is; out_is = w.out_is; sizes_are = refl; words_are = refl; mem_is = refl })
 
-  module _ (st : Store) {out after : List ℕ} {n : ℕ} where
-    pub line_refused : r ≡ Request.Refused → Written (refusal_line 7) 2 0 out after n → LinePromise (answer_line st l) out n after st
-    unfolding answer_line
-    line_refused e w =
-        let none_is : request_of l ≡ none = read.bytes ∙ ap (λ a. of_request a req) e in
-        rw (none_is, answer_line) (record { length_is = (whole w).1; out_is = (whole w).0; sizes_are = refl; words_are = refl; mem_is = refl })
-
-    pub line-served : {left : Store} {k : ℕ} → r ≡ Request.Bytes k → LinePromise (answer_request st (take k req)) out n after left
-        → LinePromise (answer_line st l) out n after left
-    unfolding answer_line
-    line-served {k = k} e p =
-        let some_is : request_of l ≡ some (take k req) = read.bytes ∙ ap (λ a. of_request a req) e in
-        rw (some_is, answer_line) p
-
-module _ (st : Store) (l : List ℕ) {out after : List ℕ} {n : ℕ} where
-  pub line_into_lem : {left : Store} → 65536 ≤ length out → LinePromise (answer_line st l) out n after left → LinePromise (line_into out st l) out n after left
-  unfolding line_into
-  line_into_lem h p = rw (le-ltb (length out) 65536 h) p
-
-pub no_room : {st : Store} (l : List ℕ) {out : List ℕ} → length out < 65536 → LinePromise (line_into out st l) out 0 out st
-unfolding line_into
-no_room l {out = out} h = rw (lt-ltb (length out) 65536 h) (record { length_is = refl; out_is = refl; sizes_are = refl; words_are = refl; mem_is = refl })
+  pub line-served : {left : Store} {k : ℕ} → RequestRead l buffer req (Some k) → LinePromise (answer_request st (take k req)) out n after left
+      → LinePromise (answer_line st l) out n after left
+  unfolding answer_line
+  line-served read p = rw (read.bytes, answer_line) p
 
 -- ---- the length of a line
 
@@ -123,15 +100,6 @@ line-most st l = go (request_of l) refl
     go none e = rw (e, answer_line) (omega arith)
     go (some s) e = rw (e, answer_line) (request-most st s)
 
--- so a line that was written leaves room for a newline
-pub line-room : (st : Store) (l : List ℕ) {out after : List ℕ} {n : ℕ} {left : Store} → LinePromise (line_into out st l) out n after left → n < 65536
-unfolding line_into
-line-room st l {out = out} p = omega (arith, p.length_is, most (ltb (length out) 65536))
-  where
-    most : (t : Bool) → length (cond t (record { line = []; store = st }) (answer_line st l)).line ≤ 54368
-    most true = omega arith
-    most false = line-most st l
-
 -- ---- a line that was written, as those who go on with it want it
 
 module _ (st : Store) (l : List ℕ) {out after : List ℕ} {n : ℕ} {left : Store} (h : 65536 ≤ length out) (p : LinePromise (line_into out st l) out n after left) where
@@ -141,6 +109,12 @@ module _ (st : Store) (l : List ℕ) {out after : List ℕ} {n : ℕ} {left : St
 
   pub line-written : take n after ≡ (answer_line st l).line
   line-written = ap (take n) into.out_is ∙ take_at (answer_line st l).line _ n (sym into.length_is)
+
+  pub line-many : n ≡ length (answer_line st l).line
+  line-many = into.length_is
+
+  pub line-stands : after ≡ (answer_line st l).line ++ drop (length (answer_line st l).line) out
+  line-stands = into.out_is
 
   pub line-fits : n ≤ 54368
   line-fits = omega (arith, into.length_is, line-most st l)

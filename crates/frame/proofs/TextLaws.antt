@@ -5,14 +5,17 @@ use mathlib.Core.Bool.{Bool, true, false, cond, true≢false}
 use mathlib.Core.Option.{none, some}
 use mathlib.Core.List.{List, [], ◌∷◌, ◌++◌, append_assoc}
 use native.Mathlib.Omega.{arith}
-use lib.ListN.{length, take, drop, length-take, length-drop, drop_of_length-le}
-use lib.Seq.{take_all, take-length, take-append-add, take_at, length-take-le, drop-drop}
+use lib.ListN.{length, take, drop, length-take, drop_of_length-le}
+use lib.Seq.{take_all, take-length, take-append-add, take_at, length-take-le}
 use lib.Dec.{ltb, eqb, leb-suc-suc}
-use borrow.Author.Tests.{lt-ltb, le-ltb, ltb-true, ltb-false}
+use borrow.Author.Tests.{lt-ltb, ltb-true, ltb-false}
+use borrow.Rule.Slice.PartMut as P
+use mir.Val.{bool_byte}
+use Rattle.std.proofs.lemmas.List.{take_rest}
 use Rattle.xdr.specs.Bytes.{splice}
 use Rattle.rules.specs.Store.{Store}
 use Rattle.rules.specs.Line.{line_bytes, request_of, refusal_line, answer_request, answer_line}
-use Rattle.frame.specs.Lines.{slice, index_after, index_of}
+use Rattle.frame.specs.Lines.{index_after, index_of}
 use Rattle.frame.specs.Text.{Part, part, in_front, parts_of, each_part}
 use Rattle.frame.specs.Reading.{keep, Kept}
 
@@ -32,43 +35,28 @@ parts_first (c ∷ cs) h = go (eqb c 10) refl cs (parts_first cs)
     go false e [] ih = rw e
     go false e (d ∷ ds) ih = rw (e, ih (omega arith), leb-suc-suc (suc (index_of 10 (d ∷ ds))) (length (d ∷ ds)))
 
--- the same from place i on, with the newline's place as it is searched for
-module _ (t : List ℕ) {i end : ℕ} (h : i < length t) (e : end ≡ i + index_of 10 (slice i (length t) t)) where
-  here : slice i (length t) t ≡ drop i t
-  unfolding slice
-  here = rw (take-length t)
+-- the same, with its newline's place, and what follows the part
+parts_split : (t : List ℕ) (end : ℕ) → 0 < length t → end ≡ index_of 10 t
+    → parts_of t ≡ part (take end t) (ltb end (length t)) ∷ parts_of (drop (end + cond (ltb end (length t)) 1 0) t)
+parts_split t end h e = rw e (parts_first t h ∙ go (ltb k (length t)) refl)
+  where
+    k : ℕ
+    k = index_of 10 t
 
-  pub parts_next : end ≤ length t
-      → parts_of (drop i t) ≡ part (take (end - i) (drop i t)) (ltb end (length t)) ∷ parts_of (drop (min (end + 1) (length t)) t)
-  parts_next k =
-      let n = index_of 10 (drop i t) in
-      let q : end ≡ i + n = e ∙ ap (λ (l : List ℕ). i + index_of 10 l) here in
-      let d = length-drop i t in
-      let f = parts_first (drop i t) (omega arith) in
-      let ends : ltb n (length (drop i t)) ≡ ltb end (length t) = same n q d in
-      let rest : drop (suc n) (drop i t) ≡ drop (min (end + 1) (length t)) t = drop-drop (suc n) i t ∙ past n q in
-      let m : n ≡ end - i = omega arith in
-      f ∙ ap (λ (k : ℕ). part (take k (drop i t)) (ltb n (length (drop i t))) ∷ parts_of (drop (suc n) (drop i t))) m
-      ∙ ap (λ b. part (take (end - i) (drop i t)) b ∷ parts_of (drop (suc n) (drop i t))) ends
-      ∙ ap (λ (l : List ℕ). part (take (end - i) (drop i t)) (ltb end (length t)) ∷ parts_of l) rest
-    where
-      same : (n : ℕ) → end ≡ i + n → length (drop i t) ≡ length t - i → ltb n (length (drop i t)) ≡ ltb end (length t)
-      same n q d = go (ltb end (length t)) refl
-        where
-          go : (b : Bool) → ltb end (length t) ≡ b → ltb n (length (drop i t)) ≡ b
-          go true b = lt-ltb n _ (omega (arith, ltb-true end (length t) b))
-          go false b = le-ltb n _ (omega (arith, ltb-false end (length t) b))
+    go : (b : Bool) → ltb k (length t) ≡ b → part (take k t) b ∷ parts_of (drop (suc k) t) ≡ part (take k t) b ∷ parts_of (drop (k + cond b 1 0) t)
+    go true b = let z : suc k ≡ k + 1 = omega arith in ap (λ (n : ℕ). part (take k t) true ∷ parts_of (drop n t)) z
+    go false b =
+        let past : length t ≤ k = ltb-false k (length t) b in
+        ap (λ (l : List ℕ). part (take k t) false ∷ parts_of l)
+        (drop_of_length-le t {i = suc k} (omega (arith, past)) ∙ sym (drop_of_length-le t {i = k + 0} (omega (arith, past))))
 
-      past : (n : ℕ) → end ≡ i + n → drop (i + suc n) t ≡ drop (min (end + 1) (length t)) t
-      past n q = go (ltb end (length t)) refl
-        where
-          go : (b : Bool) → ltb end (length t) ≡ b → drop (i + suc n) t ≡ drop (min (end + 1) (length t)) t
-          go true b =
-              let z : i + suc n ≡ min (end + 1) (length t) = omega (arith, ltb-true end (length t) b) in
-              ap (λ (m : ℕ). drop m t) z
-          go false b =
-              drop_of_length-le t {i = i + suc n} (omega (arith, ltb-false end (length t) b))
-              ∙ sym (drop_of_length-le t {i = min (end + 1) (length t)} (omega (arith, ltb-false end (length t) b)))
+pub parts_rest : (t : List ℕ) (end b : ℕ) → 0 < length t → end ≡ index_of 10 t → b ≡ bool_byte (ltb end (length t))
+    → parts_of t ≡ part (take end t) (ltb end (length t)) ∷ parts_of (take (length t - (end + b)) (drop (end + b) t))
+parts_rest t end b h e f = rw (take_rest t (end + b), f, by (ltb end (length t))) (parts_split t end h e)
+  where
+    by : (c : Bool) → bool_byte c ≡ cond c 1 0
+    by true = refl
+    by false = refl
 
 -- ---- pieces
 
@@ -114,6 +102,11 @@ take_min n l = go (ltb n (length l)) refl
     go false b =
         let e : min n (length l) ≡ length l = omega (arith, ltb-false n (length l) b) in
         ap (λ (m : ℕ). take m l) e ∙ take-length l ∙ sym (take_all n l (ltb-false n (length l) b))
+
+-- characters copied over those behind the ones that are kept
+pub copied : (line last t : List ℕ) (kept n : ℕ) → n ≤ length t → last ≡ take n t → P.put_mid kept (kept + n - kept) line last ≡ splice line kept (take n t)
+unfolding splice
+copied line last t kept n h e = rw (e, P.Post-is kept (kept + n) line (omega arith), length-take-le n t h)
 
 -- n more characters are stored behind those kept
 pub keep-more : (line t after : List ℕ) {kept n : ℕ} → kept ≤ 8193 → 8193 ≤ length line → n ≡ min (8193 - kept) (length t)

@@ -7,15 +7,16 @@ use native.Mathlib.Nat.{sub-zero}
 use native.Mathlib.Omega.{arith}
 use lib.ListN.{length, take, drop, length-append, length-take, length-drop, drop_of_length-le}
 use lib.Seq.{drop-nil, drop-drop, length-take-le, take_all}
-use lib.Dec.{ltb, eqb}
+use lib.Dec.{ltb}
 use borrow.Author.Tests.{le-ltb, ltb-true, ltb-false, ne_eqb}
 use Rattle.xdr.specs.Encode.{concat_map}
-use Rattle.frame.specs.Lines.{index_after, index_of}
+use Rattle.frame.specs.Lines.{index_of}
 use Rattle.rules.specs.Store.{Store}
 use Rattle.rules.specs.Line.{Line, answer_line, answer_lines}
 use Rattle.frame.specs.declared.text.Progress.{Progress}
 use Rattle.frame.specs.Text.{Part, part, parts_of, lines_of, each_part}
 use Rattle.frame.specs.Reading.{keep, Reading, reading, goes_on, ends_with, read_part, read_parts, unready, read_text, read_end, ReadPromise, Taken}
+use Rattle.frame.proofs.BlockLaws.{index_le}
 use Rattle.frame.proofs.TextLaws.{parts_first, pieces, keep-keep, answer-keep, keep_some, Proper, parts_proper}
 
 -- a line that was begun ends where the text does
@@ -109,15 +110,6 @@ read_joins r l m false =
     let z : r.taken + length l + length m ≡ r.taken + length (l ++ m) = omega (arith, length-append l m) in
     ap (λ (x : List ℕ). record { store = r.store; line = x; answers = r.answers; taken = r.taken + length l + length m }) (keep-keep r.line l m)
     ∙ ap (λ (n : ℕ). record { store = r.store; line = keep r.line (l ++ m); answers = r.answers; taken = n }) z
-
-index_le : (t : List ℕ) → index_of 10 t ≤ length t
-unfolding index_of index_after
-index_le [] = omega arith
-index_le (c ∷ cs) = by (eqb c 10) (index_le cs)
-  where
-    by : (b : Bool) → index_of 10 cs ≤ length cs → index_after b (index_of 10 cs) ≤ suc (length cs)
-    by true h = omega arith
-    by false h = omega arith
 
 -- the first part is read: its characters and its newline are taken
 abbrev one : Reading → List ℕ → ℕ → Reading

@@ -125,9 +125,9 @@ pub record Asks (n : ℕ) (l : List ℕ) (p : Part) (r : Judge) (line : List ℕ
   pub judging_is : (out : List ℕ) (st : Store) → judging_of r line out st ≡ asks st n l p
   pub within_is : within r.step ≡ true
 
--- the reply's line is compared with the answer a, at the start of `out`
-pub record Replies (n : ℕ) (a : List ℕ) (at : ℕ) (p : Part) (r : Judge) (out : List ℕ) : Type 0 where
-  pub judging_is : (line : List ℕ) (st : Store) → judging_of r line out st ≡ replies st n a at p
+-- the reply's line is compared with the answer a, which stands at the start of `out`
+pub record Replies (n : ℕ) (a : List ℕ) (at : ℕ) (p : Part) (r : Judge) : Type 0 where
+  pub judging_is : (line out : List ℕ) (st : Store) → take (length a) out ≡ a → judging_of r line out st ≡ replies st n a at p
   pub within_is : within r.step ≡ true
 
 -- the request l is run first

@@ -3,6 +3,7 @@ pub mod Hex
 pub mod Judging
 pub mod LineCall
 pub mod Lines
+pub mod Parts
 pub mod Printing
 pub mod Reading
 pub mod Recording

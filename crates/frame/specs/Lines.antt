@@ -1,9 +1,5 @@
--- Where a byte stands first in a part of a list. Contracts cite these.
-use Rattle.std.specs.Prelude.{ℕ, suc, Bool, true, false, List, [], ◌∷◌, take, drop, eqb}
-
--- the elements from place a on, before place b
-unfoldable pub slice : {A : Type 0} → ℕ → ℕ → List A → List A
-slice a b xs = drop a (take b xs)
+-- Where a byte stands first in a list. Contracts cite these.
+use Rattle.std.specs.Prelude.{ℕ, suc, Bool, true, false, List, [], ◌∷◌, eqb}
 
 -- 0 if it is here, else one more than in what follows
 unfoldable pub index_after : Bool → ℕ → ℕ

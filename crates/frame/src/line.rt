@@ -110,7 +110,7 @@ fn serve_digits(
         out.old result out.new
         (tables sizes.new words.new mem.new) }
 {
-    let Request::Bytes(n) = request_bytes(line, request) else {
+    let Some(n) = request_bytes(line, request) else {
         return put_refusal(Request::REFUSED, out);
     };
     serve_request(sizes, words, mem, &request[..n], out)
@@ -136,6 +136,7 @@ fn serve_fitting(
 
 // Serves the line on the lent store and writes its answer's line at the start of `out`. Answers that line's length, or 0
 // where `out` is too short to take one.
+#[tactic(auto, unfolding(crate::specs::LineCall::line_into))]
 pub fn serve_line(
     sizes: &mut [u64],
     words: &mut [u32],

@@ -1,17 +1,18 @@
 // The lines of a text that comes in pieces of any length: what is kept of a line, and the lines that end in a piece served.
-ghost use Rattle.std.specs.Prelude.{◌≡◌, ◌+◌, ◌-◌, ◌≤◌, min, length, take, drop, ltb};
+ghost use Rattle.std.specs.Prelude.{◌≡◌, ◌+◌, ◌^◌, ◌<◌, ◌≤◌, length, take};
 ghost use Rattle.tables.specs.Lent.{tables};
 ghost use Rattle.rules.specs.Line.{answer_line};
-ghost use Rattle.frame.specs.Text.{part, parts_of};
+ghost use Rattle.frame.specs.Text.{parts_of};
+ghost use Rattle.frame.specs.Parts.{part_of};
 ghost use Rattle.frame.specs.Reading.{Kept, Answered, reading, reading_of, read_part, read_parts, unready, read_text, read_end, ReadPromise, Stays};
 
-use crate::blocks::line_end;
 use crate::hex::Request;
 use crate::line::serve_line;
+use crate::parts::{Part, Parts};
 
-// After a call on a text: the characters taken of it, those kept of the line that has not ended, and those of the answers
-// that were written.
-#[derive(Clone, Copy)]
+/// After a call on a text: the characters taken of it, those kept of the line that has not ended, and those of the answers
+/// that were written.
+#[derive(Clone, Copy, Debug, PartialEq, Eq)]
 pub struct Progress {
     pub taken: usize,
     pub kept: usize,
@@ -19,42 +20,17 @@ pub struct Progress {
 }
 
 impl Progress {
-    // Room for the longest answer and its newline.
+    /// Room for the longest answer and its newline.
     pub const ROOM: usize = 65537;
-
-    // Nothing is taken yet.
-    fn new(kept: usize) -> Progress
-        ensures { result ≡ record { taken = 0; kept = kept; written = 0 } }
-    {
-        Progress {
-            taken: 0,
-            kept,
-            written: 0,
-        }
-    }
-}
-
-pub fn least(a: usize, b: usize) -> usize
-    ensures { result ≡ min a b }
-{
-    if a < b { a } else { b }
-}
-
-// The place behind the newline at `end`, or the end of the text.
-pub fn past(end: usize, len: usize) -> usize
-    requires { end ≤ len }
-    ensures { result ≡ min (end + 1) len }
-{
-    if end < len { end + 1 } else { end }
 }
 
 // Adds a part of a line to what is kept of it, as far as it is kept.
-pub fn keep(line: &mut [u8], kept: usize, part: &[u8]) -> usize
+pub fn keep(line: &mut [u8], kept: usize, text: &[u8]) -> usize
     requires { (kept ≤ 8193) × (8193 ≤ length line.old) }
-    ensures { Kept (take kept line.old) part.now result line.new }
+    ensures { Kept (take kept line.old) text.now result line.new }
 {
-    let n = least(Request::KEPT - kept, part.len());
-    xdr::put_bytes(line, kept, &part[..n]);
+    let n = (Request::KEPT - kept).min(text.len());
+    line[kept..kept + n].copy_from_slice(&text[..n]);
     kept + n
 }
 
@@ -78,42 +54,43 @@ fn answer(
     at + n + 1
 }
 
-// Takes the text up to `end`, where a newline stands or the text ends. A line that ends there is answered.
+// Takes a part of a line. A line that ends there is answered.
 fn serve_part(
     sizes: &mut [u64],
     words: &mut [u32],
     mem: &mut [u8],
     line: &mut [u8],
     out: &mut [u8],
-    text: &[u8],
-    end: usize,
+    part: Part<'_>,
     p: Progress,
 ) -> Progress
-    requires { (p.kept ≤ 8193) × ((8193 ≤ length line.old) × ((p.written + 65537 ≤ length out.old) × ((p.taken ≤ end) × (end ≤ length text.now)))) }
+    requires taken { p.taken + length part.text.now < 2 ^ 63 }
+    requires kept { p.kept ≤ 8193 }
+    requires line { 8193 ≤ length line.old }
+    requires room { p.written + 65537 ≤ length out.old }
     ensures read_promise { ReadPromise
-        (read_part (reading_of p line.old out.old (tables sizes.old words.old mem.old))
-        (part (take (end - p.taken) (drop p.taken text.now)) (ltb end (length text.now))))
+        (read_part (reading_of p line.old out.old (tables sizes.old words.old mem.old)) (part_of part.entry))
         result line.new out.old out.new
         (tables sizes.new words.new mem.new) }
     ensures kept_bound { result.kept ≤ 8193 }
 {
-    let from = p.taken;
-    let kept = keep(line, p.kept, &text[from..end]);
-    if text.len() <= end {
+    let kept = keep(line, p.kept, part.text);
+    let taken = p.taken + part.text.len();
+    if !part.ended {
         return Progress {
-            taken: end,
+            taken,
             kept,
             written: p.written,
         };
     }
     Progress {
-        taken: end + 1,
+        taken: taken + 1,
         kept: 0,
         written: answer(sizes, words, mem, &line[..kept], out, p.written),
     }
 }
 
-// Takes line after line, as long as there is room for an answer.
+// Takes part after part, as long as there is room for an answer.
 fn serve_parts(
     sizes: &mut [u64],
     words: &mut [u32],
@@ -131,17 +108,25 @@ fn serve_parts(
         result line.new out.old out.new
         (tables sizes.new words.new mem.new) }
 {
-    let mut p = Progress::new(kept);
-    while p.taken < text.len() && Progress::ROOM <= out.len() - p.written {
-        let end = line_end(text, p.taken);
-        p = serve_part(sizes, words, mem, line, out, text, end, p);
+    let mut parts = Parts { rest: text };
+    let mut p = Progress {
+        taken: 0,
+        kept,
+        written: 0,
+    };
+    while Progress::ROOM <= out.len() - p.written {
+        let Some(part) = parts.next() else {
+            return p;
+        };
+        p = serve_part(sizes, words, mem, line, out, part, p);
     }
     p
 }
 
-// Serves the lines that end in a piece of text, and writes their answers, each with a newline, at the start of `out`. Of
-// the line that was begun, `kept` characters stand at the start of `line`, which has room for `Request::KEPT`; the answer
-// says how many stand there now. It stops where `out` has no room for an answer more.
+/// Serves the lines that end in a piece of text, and writes their answers, each with a newline, at the start of `out`. Of
+/// the line that was begun, `kept` characters stand at the start of `line`, which has room for `Request::KEPT`; the answer
+/// says how many stand there now. It stops where `out` has no room for an answer more.
+#[tactic(auto, unfolding(crate::specs::Reading::read_text, crate::specs::Reading::unready), using(crate::proofs::TextLaws::take_min))]
 pub fn serve_text(
     sizes: &mut [u64],
     words: &mut [u32],
@@ -157,16 +142,18 @@ pub fn serve_text(
         (tables sizes.new words.new mem.new) }
     ensures stays { Stays (unready line.old kept) line.old line.new }
 {
-    if line.len() < Request::KEPT {
-        return Progress::new(least(kept, line.len()));
-    }
-    if Request::KEPT < kept {
-        return Progress::new(least(kept, line.len()));
+    if line.len() < Request::KEPT || Request::KEPT < kept {
+        return Progress {
+            taken: 0,
+            kept: kept.min(line.len()),
+            written: 0,
+        };
     }
     serve_parts(sizes, words, mem, line, out, text, kept)
 }
 
-// The end of the text: a line that was begun ends there.
+/// The end of the text: a line that was begun ends there.
+#[tactic(auto, unfolding(crate::specs::Reading::read_end))]
 pub fn serve_end(
     sizes: &mut [u64],
     words: &mut [u32],
@@ -182,8 +169,11 @@ pub fn serve_end(
     ensures stays { Stays (unready line.old kept) line.old line.new }
 {
     if kept == 0 {
-        return Progress::new(0);
+        return Progress {
+            taken: 0,
+            kept: 0,
+            written: 0,
+        };
     }
-    let newline = [b'\n'; 1];
-    serve_text(sizes, words, mem, line, out, &newline, kept)
+    serve_text(sizes, words, mem, line, out, b"\n", kept)
 }

@@ -6,12 +6,18 @@ use mathlib.Core.List.{List}
 use native.Mathlib.Omega.{arith}
 use lib.ListN.{length, take, drop}
 use borrow.Rule.Slice.PartMut.{mid_len}
+use Rattle.std.specs.Prelude.{Result, Ok, Err, OnErr}
 use Rattle.rules.specs.Store.{Store}
 use Rattle.frame.specs.declared.text.Progress.{Progress}
 use Rattle.frame.specs.Reading.{read_text, ReadPromise, Taken}
 use Rattle.frames.specs.Stopped.{Stopped}
 use Rattle.frame.proofs.TextLaws.{Lengths, lengths-start, lengths-on}
 use Rattle.frame.proofs.TextProof.{call-within, call_moves, TakenTo, taken_start, taken_more, taken-all}
+
+-- what holds, holds where there is an error
+pub on_err : {T E P : Type 0} (r : Result T E) → P → OnErr r P
+on_err (Ok x) p = tt
+on_err (Err e) p = p
 
 -- the piece is taken to place i
 pub record PieceLeft (st₀ : Store) (line₀ out₀ piece : List ℕ) (kept₀ : ℕ) (st : Store) (line out : List ℕ) (kept i : ℕ) : Type 0 where
@@ -20,14 +26,13 @@ pub record PieceLeft (st₀ : Store) (line₀ out₀ piece : List ℕ) (kept₀ 
   pub reached : i ≤ length piece
   pub taken : TakenTo st₀ (take kept₀ line₀) piece st (take kept line) i
 
-pub piece-start : (st : Store) (line out piece : List ℕ) (kept₀ : ℕ) {kept : ℕ} → kept ≡ kept₀ → kept₀ ≤ 8193 → PieceLeft st line out piece kept₀ st line out kept 0
-piece-start st line out piece kept₀ e h =
-    rw e (record {
-      long = lengths-start st line out;
-      few = h;
-      reached = omega arith;
-      taken = taken_start st (take kept₀ line) piece;
-    })
+pub piece-start : (st : Store) (line out piece : List ℕ) (kept : ℕ) → kept ≤ 8193 → PieceLeft st line out piece kept st line out kept 0
+piece-start st line out piece kept h = record {
+  long = lengths-start st line out;
+  few = h;
+  reached = omega arith;
+  taken = taken_start st (take kept line) piece;
+}
 
 module _ {st₀ : Store} {line₀ out₀ piece : List ℕ} {kept₀ : ℕ} {st : Store} {line out : List ℕ} {kept i : ℕ}
     (left : PieceLeft st₀ line₀ out₀ piece kept₀ st line out kept i) where

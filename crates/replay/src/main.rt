@@ -4,31 +4,15 @@
 
 ghost use Rattle.std.specs.Prelude.{◌≤◌, length, IfOk};
 
-use frame::{Frame, Judge, Request, Verdict};
+use frame::{Frame, Judge, Request};
 use std::io;
 use std::io::{Read, Write};
 
 // Bytes of input read at a time.
 const INPUT: usize = 65536;
 
-// How many bytes of the recording a read brings; 0 where nothing more is wanted.
-fn read_on<R: Read>(from: &mut R, input: &mut [u8], j: Judge) -> io::Result<usize>
-    ensures { IfOk result (λ n. n ≤ length input.new) }
-{
-    if frame::decided(j) {
-        return Ok(0);
-    }
-    from.read(input)
-}
-
-fn say<W: Write>(to: &mut W, v: Verdict) -> io::Result<()> {
-    let mut text = [0u8; Verdict::ROOM];
-    let n = frame::put_verdict(v, &mut text);
-    to.write_all(&text[..n])
-}
-
-// A proved loop has to end, and nothing says that the input does: the turns are counted down from a number that no run
-// uses up. A read that failed leaves no verdict.
+// A proved loop has to end, and nothing says that the input does: no run uses up the turns. A read that failed leaves no
+// verdict.
 fn judge_all<R: Read, W: Write>(
     from: &mut R,
     to: &mut W,
@@ -39,18 +23,19 @@ fn judge_all<R: Read, W: Write>(
     out: &mut [u8],
     input: &mut [u8],
 ) -> io::Result<()> {
-    let mut j = Judge::new();
-    let mut got = read_on(from, input, j)?;
-    let mut turns = u64::MAX;
-    while turns > 0 && got > 0 {
-        j = frame::judge_text(sizes, words, mem, line, out, &input[..got], j);
-        got = read_on(from, input, j)?;
-        turns -= 1;
+    let mut judge = Judge::new();
+    for _ in 0..u64::MAX {
+        let n = if frame::decided(judge) {
+            0
+        } else {
+            from.read(input)?
+        };
+        if n == 0 {
+            return write!(to, "{}", frame::judged(judge, line, out));
+        }
+        judge = frame::judge_text(sizes, words, mem, line, out, &input[..n], judge);
     }
-    if got != 0 {
-        return Ok(());
-    }
-    say(to, frame::judged(j, line, out))
+    Ok(())
 }
 
 // The store is empty: its tables are zero.

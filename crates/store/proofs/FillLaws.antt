@@ -115,6 +115,15 @@ module _ {g : Geometry} {st : Store} {e : CodeEdit.Edit} {size : ℕ} {words mem
     alone : Alone words (e.file * g.S + k)
     alone = rw known.words_are (plan-alone g st (edit_from e) (inside known) k h.from h.to o)
 
+    -- no slot of another file has its block
+    other_word : (f q : ℕ) → f < g.F → f ≢ e.file → q < g.S → word_of g words e.file k / 2 ≢ word_of g words f q / 2
+    other_word f q hf n l =
+        alone.apart (f * g.S + q) (omega (arith, words_long known, in_file g f q hf l)) (go (apart g.S f e.file q n l))
+      where
+        go : (f * g.S + q < e.file * g.S) ⊎ (e.file * g.S + g.S ≤ f * g.S + q) → f * g.S + q ≡ e.file * g.S + k → ⊥
+        go (inl a) z = omega arith
+        go (inr a) z = omega (arith, slot-below)
+
     owns-touched : Touched g (length mem) w (word_of g words e.file k) k e.off e.end
     owns-touched =
         slot-touched g (length mem) w (word_of g words e.file k) k e.off e.end (good-plan known) (omega (arith, bytes-long)) known.edit.some known.edit.fits h.from h.to
@@ -136,15 +145,8 @@ module _ {g : Geometry} {st : Store} {e : CodeEdit.Edit} {size : ℕ} {words mem
         let pos = block-pos (good-plan known) in
         let q : i / g.B < g.S = div_lt pos i g.S l in
         other_block g mem (within e.off e.end) byte w (word_of g words e.file k) k bytes-long owns-touched.backed (word_of g words f (i / g.B)) (i % g.B)
-        (alone.apart (f * g.S + i / g.B) (omega (arith, words_long known, in_file g f (i / g.B) hf q)) (λ (z : f * g.S + i / g.B ≡ e.file * g.S + k). elsewhere z q)) (mod-lt i pos)
+        (other_word f (i / g.B) hf n q) (mod-lt i pos)
         ∙ h.filling.others f i hf n l
-      where
-        elsewhere : f * g.S + i / g.B ≡ e.file * g.S + k → i / g.B < g.S → ⊥
-        elsewhere z q = go (apart g.S f e.file (i / g.B) n q)
-          where
-            go : (f * g.S + i / g.B < e.file * g.S) ⊎ (e.file * g.S + g.S ≤ f * g.S + i / g.B) → ⊥
-            go (inl a) = omega arith
-            go (inr a) = omega (arith, slot-below)
 
   fill_none : is_owned (kind_of g st (edit_from e) k) ≡ false → mem ≡ fill_slot g st (edit_from e) mem k
   unfolding fill_slot
@@ -181,8 +183,8 @@ module _ {g : Geometry} {st : Store} {e : CodeEdit.Edit} {size : ℕ} {words mem
     source_fits : s.off + (e.end - e.off) ≤ g.S * g.B
     source_fits = omega (arith, (act-known is).source.inside, (snd known).fits s.file (act-known is).source.file)
 
-    pub copy-asks : {room : ℕ} → 4096 ≤ room → SlotCopy g words mem s.file s.off w (word_of g words e.file k) k e.off e.end room
-    copy-asks page = record {
+    pub copy-asks : SlotCopy g words mem s.file s.off w (word_of g words e.file k) k e.off e.end
+    copy-asks = record {
       touched = owns-touched o;
       readable = record {
         geometry = known.shaped.geometry;
@@ -192,7 +194,7 @@ module _ {g : Geometry} {st : Store} {e : CodeEdit.Edit} {size : ℕ} {words mem
         file = (act-known is).source.file;
         fits = source_fits;
       };
-      page = omega (arith, (good-plan known).block_most);
+      other = λ q l z. other_word o s.file q (act-known is).source.file (act-known is).other l (sym z);
     }
 
     pub copy_fills : {m : List ℕ}

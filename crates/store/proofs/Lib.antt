@@ -12,3 +12,4 @@ pub mod KindLaws
 pub mod MatchLaws
 pub mod PassLaws
 pub mod FillLaws
+pub mod WholeLaws

@@ -9,10 +9,10 @@ use native.Mathlib.Decide.{dec_le, dec_lt}
 use native.Mathlib.Omega.{arith}
 use borrow.Author.Tests.{eq-eqb, ne_eqb}
 use borrow.Rule.Slice.PartMut as P
-use lib.ListN.{length, get_or, take, drop, replicate, length-take, length-drop}
+use lib.ListN.{length, get_or, take, drop, replicate, length-take, length-drop, length-replicate}
 use lib.Seq.{length-take-le, take-append-add, drop-append-add, take-append-le, drop-append-le, drop-drop, get_or-take, get_or-drop}
 use Rattle.xdr.specs.Bytes.{splice}
-use Rattle.xdr.proofs.BytesLaws.{length-splice, put_zeroed}
+use Rattle.xdr.proofs.BytesLaws.{length-splice, put-splice, put_zeroed}
 use Rattle.rules.specs.Lists.{tabulate, each}
 use Rattle.rules.specs.Store.{Geometry}
 use Rattle.rules.specs.Edit.{within, first_slot, slot_count, slot_bytes, overlay, store_slot}
@@ -77,10 +77,6 @@ module _ (g : Geometry) (m : List ℕ) (old new : ℕ) (h : Backed g (length m) 
         → P.put_mid r (r + g.B - r) m ys ≡ splice m (pred (new / 2) * g.B) (slot_bytes g m old)
     fresh-zero ys e z = rw (hole-bytes g m old e, ← s.start) (put_zeroed r g.B m ys (omega (arith, h.new_inside, s.end)) z)
 
-    pub fresh-copy : (q : ℕ) (m' : List ℕ) → Starts g old q → old / 2 ≢ 0 → m' ≡ splice m r (take g.B (drop q m))
-        → m' ≡ splice m (pred (new / 2) * g.B) (slot_bytes g m old)
-    fresh-copy q m' t d e = rw (block-bytes g m old d, ← s.start, ← t.start) e
-
     -- bytes put over a part of it
     pub part-stored : (lo : ℕ) (cs m' : List ℕ) → lo + length cs ≤ g.B → m' ≡ splice m (pred (new / 2) * g.B) (slot_bytes g m old)
         → splice m' (r + lo) cs ≡ splice m (pred (new / 2) * g.B) (splice (slot_bytes g m old) lo cs)
@@ -133,6 +129,36 @@ write-share g m d old new k off a b h ha hb =
     let n : b - off - (a - off) ≡ b - a = omega arith in
     rw (n, ← write-part d off a (b - a) (omega arith) (omega (arith, h.after, h.before)))
     (share g m old new k off (off + length d) a b h ha hb (λ p. get_or d (p - off) 0))
+
+-- the part of a block that is lent comes back with the share
+module _ (g : Geometry) (m : List ℕ) (old new k off end a b r : ℕ) (h : Touched g (length m) old new k off end)
+    (ha : a ≡ max off (k * g.B)) (hb : b ≡ min end (k * g.B + g.B)) (s : Starts g new r)
+    (m' : List ℕ) (fresh : m' ≡ splice m (pred (new / 2) * g.B) (slot_bytes g m old)) (ys : List ℕ) where
+  pub bytes-stored : (cs : List ℕ) → length cs ≡ b - a → ys ≡ cs
+      → P.put_mid (r + (a - k * g.B)) (r + (a - k * g.B) + (b - a) - (r + (a - k * g.B))) m' ys
+      ≡ splice m (pred (new / 2) * g.B) (splice (slot_bytes g m old) (a - k * g.B) cs)
+  bytes-stored cs n e =
+      put-splice (r + (a - k * g.B)) (b - a) m' ys cs e n
+      ∙ part-stored g m old new h.backed r s (a - k * g.B) cs m' (omega (arith, n, h.ordered, h.after, h.before)) fresh
+
+  pub zeros-stored : ys ≡ replicate (length (take (r + (a - k * g.B) + (b - a) - (r + (a - k * g.B))) (drop (r + (a - k * g.B)) m'))) 0
+      → P.put_mid (r + (a - k * g.B)) (r + (a - k * g.B) + (b - a) - (r + (a - k * g.B))) m' ys ≡ store_slot g (within off end) (λ i. 0) old new m k
+  zeros-stored z =
+      let long : length m' ≡ length m
+      = ap length fresh ∙ length-splice m (pred (new / 2) * g.B) (slot_bytes g m old) (omega (arith, slot-long g m old h.backed.old_inside, s.start, s.end, h.backed.new_inside)) in
+      put_zeroed (r + (a - k * g.B)) (b - a) m' ys (omega (arith, long, s.end, h.backed.new_inside, h.ordered, h.after, h.before)) z
+      ∙ part-stored g m old new h.backed r s (a - k * g.B) (replicate (b - a) 0) m' (rw (length-replicate {A = ℕ} (b - a) 0) (omega (arith, h.ordered, h.after, h.before))) fresh
+      ∙ zero-share g m old new k off end a b h ha hb
+
+pub write-stored : (g : Geometry) (m d : List ℕ) (old new k off a b r : ℕ) → (h : Touched g (length m) old new k off (off + length d))
+    → a ≡ max off (k * g.B) → b ≡ min (off + length d) (k * g.B + g.B) → Starts g new r
+    → (m' : List ℕ) → m' ≡ splice m (pred (new / 2) * g.B) (slot_bytes g m old) → (ys : List ℕ) → ys ≡ take (b - off - (a - off)) (drop (a - off) d)
+    → P.put_mid (r + (a - k * g.B)) (r + (a - k * g.B) + (b - a) - (r + (a - k * g.B))) m' ys
+    ≡ store_slot g (within off (off + length d)) (λ p. get_or d (p - off) 0) old new m k
+write-stored g m d old new k off a b r h ha hb s m' fresh ys e =
+    bytes-stored g m old new k off (off + length d) a b r h ha hb s m' fresh ys _
+    (length-take (b - off - (a - off)) (drop (a - off) d) ∙ rw (length-drop (a - off) d) (omega (arith, h.after, h.before, h.ordered))) e
+    ∙ write-share g m d old new k off a b h ha hb
 
 -- ---- the slots in order
 

@@ -5,3 +5,4 @@ pub mod EditPromises
 pub mod Edits
 pub mod Planner
 pub mod Fill
+pub mod Whole

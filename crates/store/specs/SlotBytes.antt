@@ -1,6 +1,6 @@
 -- Storing an edit's bytes, slot by slot. Contracts cite these.
-use Rattle.std.specs.Prelude.{ℕ, pred, ◌+◌, ◌*◌, ◌/◌, ◌^◌, ◌≤◌, ◌<◌, ◌-◌, ◌≡◌, List, length}
-use Rattle.rules.specs.Store.{Geometry}
+use Rattle.std.specs.Prelude.{ℕ, pred, ◌+◌, ◌*◌, ◌/◌, ◌^◌, ◌≤◌, ◌<◌, ◌-◌, ◌≡◌, ◌≢◌, ◌⊎◌, List, length}
+use Rattle.rules.specs.Store.{Geometry, word_of}
 use Rattle.store.specs.Readable.{Readable}
 
 -- the block of word w starts at r
@@ -26,8 +26,18 @@ pub record Touched (g : Geometry) (len old new k off end : ℕ) : Type 0 where
 
 -- ---- COPY: the bytes of file s from soff on, at the places from off up to end
 
--- slot k is touched, the bytes can be read, and a page of `room` bytes takes a slot's share
-pub record SlotCopy (g : Geometry) (ws m : List ℕ) (s soff old new k off end room : ℕ) : Type 0 where
+-- slot k is touched, the bytes can be read, and no slot of s has its block
+pub record SlotCopy (g : Geometry) (ws m : List ℕ) (s soff old new k off end : ℕ) : Type 0 where
   pub touched : Touched g (length m) old new k off end
   pub readable : Readable g ws m s (soff + (end - off))
-  pub page : g.B ≤ room
+  pub other : (q : ℕ) → q < g.S → word_of g ws s q / 2 ≢ new / 2
+
+-- the block of word w lies apart from the n bytes at `to`
+abbrev pub Apart : Geometry → ℕ → ℕ → ℕ → Type 0
+Apart g w to n = (w / 2 * g.B ≤ to) ⊎ (to + n ≤ pred (w / 2) * g.B)
+
+-- n bytes of file s from soff on can be read, and the blocks of its slots lie apart from the bytes at `to`
+pub record Copyable (g : Geometry) (ws m : List ℕ) (s soff n to : ℕ) : Type 0 where
+  pub readable : Readable g ws m s (soff + n)
+  pub room : to + n ≤ length m
+  pub apart : (q : ℕ) → q < g.S → Apart g (word_of g ws s q) to n

@@ -1,10 +1,11 @@
 // An edit's bytes: the block of each touched slot gets the old slot's bytes, with the new ones over them.
-ghost use Rattle.std.specs.Prelude.{◌≡◌, pred, ◌+◌, ◌*◌, ◌/◌, ◌^◌, ◌<◌, ◌≤◌, ◌-◌, ◌⊎◌, length, get_or, take, drop, replicate};
+ghost use Rattle.std.specs.Prelude.{◌≡◌, pred, ◌+◌, ◌*◌, ◌/◌, ◌^◌, ◌<◌, ◌≤◌, ◌-◌, ◌⊎◌, length, get_or, take, drop};
 ghost use Rattle.xdr.specs.Bytes.{splice};
 ghost use Rattle.tables.specs.Lent.{geometry_of};
 ghost use Rattle.rules.specs.Edit.{within, slot_bytes, store_slot};
 ghost use Rattle.store.specs.SlotBytes.{Starts, Backed, Touched};
 
+use crate::edit::Slot;
 use tables::Geometry;
 
 // The leaf that copies a block.
@@ -17,7 +18,7 @@ fn copy_over(block: &mut [u8], source: &[u8])
 
 // The `size` bytes at `from` over those at `to`: the target's part of the memory is lent on to the leaf.
 #[tactic(auto, unfolding(xdr::specs::Bytes::splice))]
-fn copy_block(mem: &mut [u8], from: usize, to: usize, size: usize)
+pub fn copy_block(mem: &mut [u8], from: usize, to: usize, size: usize)
     requires inside { (from + size ≤ length mem.old) × (to + size ≤ length mem.old) }
     requires apart { (from + size ≤ to) ⊎ (to + size ≤ from) }
     ensures { mem.new ≡ splice mem.old to (take size (drop from mem.old)) }
@@ -39,63 +40,46 @@ fn block_start(g: Geometry, w: u32) -> usize
     ((w / 2) as usize - 1) * g.block_size
 }
 
-// Makes the block of `new` the old slot's bytes: it is that block, or becomes zeros for a hole, or a copy.
-fn fresh_block(g: Geometry, mem: &mut [u8], old: u32, new: u32)
-    requires { Backed (geometry_of g) (length mem.old) old new }
-    ensures { mem.new ≡ splice mem.old (pred (new / 2) * (geometry_of g).B) (slot_bytes (geometry_of g) mem.old old) }
+// Gives the block of the slot's new word the old slot's bytes: it is that block, or becomes zeros for a hole, or a copy. Answers where it
+// starts.
+pub fn fresh_block(g: Geometry, mem: &mut [u8], slot: Slot) -> usize
+    requires { Backed (geometry_of g) (length mem.old) slot.old slot.new }
+    ensures start { Starts (geometry_of g) slot.new result }
+    ensures bytes { mem.new ≡ splice mem.old (pred (slot.new / 2) * (geometry_of g).B) (slot_bytes (geometry_of g) mem.old slot.old) }
 {
-    if old / 2 == new / 2 {
-        return;
+    let to = block_start(g, slot.new);
+    if slot.old / 2 == slot.new / 2 {
+        return to;
     }
-    let to = block_start(g, new);
-    if old / 2 == 0 {
+    if slot.old / 2 == 0 {
         mem[to..to + g.block_size].fill(0);
-        return;
+        return to;
     }
-    copy_block(mem, block_start(g, old), to, g.block_size);
+    copy_block(mem, block_start(g, slot.old), to, g.block_size);
+    to
 }
 
-// The old slot's bytes in the block of `new`, with `src` over them from `lo` on.
-pub fn store_part(g: Geometry, mem: &mut [u8], old: u32, new: u32, lo: usize, src: &[u8])
-    requires { Backed (geometry_of g) (length mem.old) old new × (lo + length src.now ≤ (geometry_of g).B) }
-    ensures { mem.new ≡ splice mem.old (pred (new / 2) * (geometry_of g).B)
-        (splice (slot_bytes (geometry_of g) mem.old old) lo src.now) }
-{
-    fresh_block(g, mem, old, new);
-    let at = block_start(g, new) + lo;
-    mem[at..at + src.len()].copy_from_slice(src);
-}
-
-// The old slot's bytes in the block of `new`, with n zeros over them from `lo` on.
-fn zero_range(g: Geometry, mem: &mut [u8], old: u32, new: u32, lo: usize, n: usize)
-    requires { Backed (geometry_of g) (length mem.old) old new × (lo + n ≤ (geometry_of g).B) }
-    ensures { mem.new ≡ splice mem.old (pred (new / 2) * (geometry_of g).B)
-        (splice (slot_bytes (geometry_of g) mem.old old) lo (replicate n 0)) }
-{
-    fresh_block(g, mem, old, new);
-    let at = block_start(g, new) + lo;
-    mem[at..at + n].fill(0);
-}
-
-// Slot k's share of a WRITE of d at `off`.
-pub fn write_slot(g: Geometry, mem: &mut [u8], old: u32, new: u32, k: usize, off: usize, d: &[u8])
-    requires { Touched (geometry_of g) (length mem.old) old new k off (off + length d.now) }
+// The slot's share of a WRITE of d at `off`.
+pub fn write_slot(g: Geometry, mem: &mut [u8], slot: Slot, off: usize, d: &[u8])
+    requires { Touched (geometry_of g) (length mem.old) slot.old slot.new slot.index off (off + length d.now) }
     ensures { mem.new ≡ store_slot (geometry_of g) (within off (off + length d.now)) (λ p. get_or d.now (p - off) 0)
-        old new mem.old k }
+        slot.old slot.new mem.old slot.index }
 {
-    let p = k * g.block_size;
+    let p = slot.index * g.block_size;
     let a = off.max(p);
     let b = (off + d.len()).min(p + g.block_size);
-    store_part(g, mem, old, new, a - p, &d[a - off..b - off]);
+    let to = fresh_block(g, mem, slot) + (a - p);
+    mem[to..to + (b - a)].copy_from_slice(&d[a - off..b - off]);
 }
 
-// Slot k's share of zeroing the places from `off` up to `end`.
-pub fn zero_slot(g: Geometry, mem: &mut [u8], old: u32, new: u32, k: usize, off: usize, end: usize)
-    requires { Touched (geometry_of g) (length mem.old) old new k off end }
-    ensures { mem.new ≡ store_slot (geometry_of g) (within off end) (λ i. 0) old new mem.old k }
+// The slot's share of zeroing the places from `off` up to `end`.
+pub fn zero_slot(g: Geometry, mem: &mut [u8], slot: Slot, off: usize, end: usize)
+    requires { Touched (geometry_of g) (length mem.old) slot.old slot.new slot.index off end }
+    ensures { mem.new ≡ store_slot (geometry_of g) (within off end) (λ i. 0) slot.old slot.new mem.old slot.index }
 {
-    let p = k * g.block_size;
+    let p = slot.index * g.block_size;
     let a = off.max(p);
     let b = end.min(p + g.block_size);
-    zero_range(g, mem, old, new, a - p, b - a);
+    let to = fresh_block(g, mem, slot) + (a - p);
+    mem[to..to + (b - a)].fill(0);
 }

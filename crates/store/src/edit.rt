@@ -26,6 +26,14 @@ pub struct Edit<'a> {
     pub act: Act<'a>,
 }
 
+// A slot of the region: its index in the file, its word before the edit and the planned one.
+#[derive(Clone, Copy, Debug, PartialEq, Eq)]
+pub struct Slot {
+    pub index: usize,
+    pub old: u32,
+    pub new: u32,
+}
+
 // What becomes of a slot of the region.
 #[derive(Clone, Copy, Debug, PartialEq, Eq)]
 pub enum Kind {

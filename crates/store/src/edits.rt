@@ -1,6 +1,5 @@
 // The one call that edits: the plan, and where it fits the pool the bytes and the size.
 ghost use Rattle.std.specs.Prelude.{◌≡◌, true, ◌*◌, ◌<◌, ◌≤◌, ◌-◌, is_ok};
-ghost use Rattle.rules.specs.Store.{good_geometry};
 ghost use Rattle.rules.specs.Edit.{slot_count, edited};
 ghost use Rattle.store.specs.EditPromises.{EditPromise};
 ghost use Rattle.store.specs.Edits.{Applies, edit_from};
@@ -13,7 +12,7 @@ use tables::Geometry;
 
 // How many slots have a byte in the region from `off` up to `end`.
 fn slot_count(g: Geometry, off: usize, end: usize) -> usize
-    requires { (good_geometry (geometry_of g) ≡ true) × ((off < end) × (end ≤ (geometry_of g).S * (geometry_of g).B)) }
+    requires { (off < end) × (end ≤ (geometry_of g).S * (geometry_of g).B) }
     ensures { result ≡ slot_count (geometry_of g) off end }
 {
     (end + (g.block_size - 1)) / g.block_size - off / g.block_size

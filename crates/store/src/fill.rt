@@ -1,5 +1,5 @@
 // The bytes of an edit, in the slots of its region, once their words are planned.
-ghost use Rattle.std.specs.Prelude.{◌≡◌, ℕ, ◌≤◌, length};
+ghost use Rattle.std.specs.Prelude.{◌≡◌, ℕ};
 ghost use Rattle.rules.specs.Store.{Store};
 ghost use Rattle.rules.specs.Edit.{edit_bytes, fill_slot};
 ghost use Rattle.tables.specs.Lent.{geometry_of};
@@ -8,80 +8,48 @@ ghost use Rattle.store.specs.Fill.{Fills, SlotFills, SlotOwns};
 
 use crate::bytes::{write_slot, zero_slot};
 use crate::copy_bytes::copy_slot;
-use crate::edit::{Act, Edit, Kind};
+use crate::edit::{Act, Edit, Kind, Slot};
 use crate::kinds::kind_of;
 use tables::Geometry;
 
 // The share of slot k, which is to have a block of its own. w is its word before the edit, `words` are the planned ones.
-fn put_owned(
-    g: Geometry,
-    words: &[u32],
-    mem: &mut [u8],
-    e: &Edit<'_>,
-    k: usize,
-    w: u32,
-    page: &mut [u8],
-)
-    requires { ((st : Store) × ((size : ℕ) × SlotOwns (geometry_of g) st e.now size words.now mem.old k w)) × (4096 ≤ length page.old) }
+fn put_owned(g: Geometry, words: &[u32], mem: &mut [u8], e: &Edit<'_>, k: usize, w: u32)
+    requires { (st : Store) × ((size : ℕ) × SlotOwns (geometry_of g) st e.now size words.now mem.old k w) }
     ensures { (st : Store) (size : ℕ) → SlotOwns (geometry_of g) st e.now size words.now mem.old k w
         → mem.new ≡ fill_slot (geometry_of g) st (edit_from e.now) mem.old k }
 {
-    let new = words[e.file * g.slots + k];
+    let slot = Slot {
+        index: k,
+        old: w,
+        new: words[e.file * g.slots + k],
+    };
     match e.act {
-        Act::Write(d) => write_slot(g, mem, w, new, k, e.off, d),
-        Act::Copy(s) => copy_slot(g, words, mem, e, s, w, new, k, page),
+        Act::Write(d) => write_slot(g, mem, slot, e.off, d),
+        Act::Copy(s) => copy_slot(g, words, mem, e, s, slot),
         Act::Clone(_) | Act::Allocate => {}
-        Act::Deallocate => zero_slot(g, mem, w, new, k, e.off, e.end),
+        Act::Deallocate => zero_slot(g, mem, slot, e.off, e.end),
     }
 }
 
 // Slot k's share of e's bytes: nothing unless the slot is to have a block of its own.
-fn put_slot(
-    g: Geometry,
-    words: &[u32],
-    mem: &mut [u8],
-    e: &Edit<'_>,
-    size: usize,
-    k: usize,
-    w: u32,
-    page: &mut [u8],
-)
-    requires { ((st : Store) × SlotFills (geometry_of g) st e.now size words.now mem.old k w) × (4096 ≤ length page.old) }
+fn put_slot(g: Geometry, words: &[u32], mem: &mut [u8], e: &Edit<'_>, size: usize, k: usize, w: u32)
+    requires { (st : Store) × SlotFills (geometry_of g) st e.now size words.now mem.old k w }
     ensures { (st : Store) → SlotFills (geometry_of g) st e.now size words.now mem.old k w
         → mem.new ≡ fill_slot (geometry_of g) st (edit_from e.now) mem.old k }
 {
     if let Kind::Owns = kind_of(g, words, e, size, k, w) {
-        put_owned(g, words, mem, e, k, w, page);
+        put_owned(g, words, mem, e, k, w);
     }
 }
 
-// The bytes of e in the slots of its region, whose words before it were `old`, through a page of at least 4,096 bytes.
-fn put_slots(
-    g: Geometry,
-    words: &[u32],
-    mem: &mut [u8],
-    e: &Edit<'_>,
-    size: usize,
-    old: &[u32],
-    page: &mut [u8],
-)
-    requires { ((st : Store) × Fills (geometry_of g) st e.now size old.now words.now mem.old) × (4096 ≤ length page.old) }
-    ensures { (st : Store) → Fills (geometry_of g) st e.now size old.now words.now mem.old
-        → mem.new ≡ edit_bytes (geometry_of g) st (edit_from e.now) }
-{
-    let first = e.off / g.block_size;
-    for (i, &w) in old.iter().enumerate() {
-        put_slot(g, words, mem, e, size, first + i, w, page);
-    }
-}
-
-// The bytes of e, before which its file had that size and the slots of its region the words `old`. It owns a page and only
-// lends it.
+// The bytes of e in the slots of its region, whose words before it were `old`; its file had that size.
 pub fn put_bytes(g: Geometry, words: &[u32], mem: &mut [u8], e: &Edit<'_>, size: usize, old: &[u32])
     requires { (st : Store) × Fills (geometry_of g) st e.now size old.now words.now mem.old }
     ensures { (st : Store) → Fills (geometry_of g) st e.now size old.now words.now mem.old
         → mem.new ≡ edit_bytes (geometry_of g) st (edit_from e.now) }
 {
-    let mut page = [0u8; Geometry::MAX_BLOCK];
-    put_slots(g, words, mem, e, size, old, &mut page);
+    let first = e.off / g.block_size;
+    for (i, &w) in old.iter().enumerate() {
+        put_slot(g, words, mem, e, size, first + i, w);
+    }
 }

@@ -1,6 +1,6 @@
 // What becomes of a slot of an edit's region.
 ghost use Rattle.std.specs.Prelude.{◌≡◌, true, cond, ◌*◌, ◌<◌, ◌≤◌, length};
-ghost use Rattle.rules.specs.Store.{good_geometry, is_hole};
+ghost use Rattle.rules.specs.Store.{is_hole};
 ghost use Rattle.rules.specs.Edit.{covers, given, goes_first, owns, stays};
 ghost use Rattle.tables.specs.Lent.{geometry_of};
 ghost use Rattle.store.specs.Edits.{kind_from};
@@ -13,7 +13,7 @@ use tables::Geometry;
 // Whether the bytes of slot k below the size, at least one, all lie in the region.
 #[tactic(auto, unfolding(rules::specs::Edit::covers))]
 fn covered(g: Geometry, size: usize, off: usize, end: usize, k: usize) -> bool
-    requires { (good_geometry (geometry_of g) ≡ true) × (k < g.slots) }
+    requires { k < g.slots }
     ensures { result ≡ covers (geometry_of g) size off end k }
 {
     let start = k * g.block_size;
@@ -22,7 +22,7 @@ fn covered(g: Geometry, size: usize, off: usize, end: usize, k: usize) -> bool
 
 // What a DEALLOCATE makes of slot k, whose word is w.
 fn cut_kind(g: Geometry, size: usize, off: usize, end: usize, k: usize, w: u32) -> Kind
-    requires { (good_geometry (geometry_of g) ≡ true) × (k < g.slots) }
+    requires { k < g.slots }
     ensures { kind_from result ≡ cond (covers (geometry_of g) size off end k) given (cond (is_hole w) stays owns) }
 {
     if covered(g, size, off, end, k) {

@@ -8,7 +8,7 @@ use crate::seek::word_at;
 use tables::Geometry;
 
 // Of the n bytes from place i on, how many lie in the slot of place i.
-fn slot_share(b: usize, i: usize, n: usize) -> usize
+pub fn slot_share(b: usize, i: usize, n: usize) -> usize
     requires { 0 < b }
     ensures { result ≡ min n (b - i % b) }
 {

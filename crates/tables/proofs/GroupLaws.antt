@@ -1,12 +1,13 @@
 -- Laws on tables of numbers that are looked at flat, and on groups: where they lie, and what each of their numbers is.
 use Prim.Native.Nat.{ℕ, zero, suc, ◌+◌, ◌-◌, ◌%◌, ◌≤◌, ◌<◌}
 use mathlib.Core.Path.{◌≡◌, refl, sym, ap, ◌∙◌}
-use mathlib.Core.Bool.{Bool, true, false}
+use mathlib.Core.Bool.{Bool, true, false, ◌&&◌, and_comm}
 use mathlib.Core.List.{List, [], ◌∷◌}
 use native.Mathlib.Nat.{le_refl}
 use native.Mathlib.Decide.{dec_lt}
+use native.Mathlib.Numerals.{add-one}
 use native.Mathlib.Omega.{arith}
-use borrow.Author.Tests.{eq-eqb, eqb-true, lt-ltb, le-ltb, leb-true, le-leb, lt-leb}
+use borrow.Author.Tests.{eq-eqb, ne_eqb, eqb-true, lt-ltb, le-ltb, leb-true, le-leb, lt-leb}
 use lib.ListN.{length, get_or, take, drop, length-drop}
 use lib.Seq.{get_or-take, get_or-drop, length-take-le}
 use lib.Dec.{leb, ltb, eqb}
@@ -27,6 +28,11 @@ pub all_to_ext : (n : ℕ) (p q : ℕ → Bool) → ((i : ℕ) → i < n → p i
 all_to_ext zero p q h = refl
 all_to_ext (suc n) p q h = rw (h n (le_refl (suc n)), all_to_ext n p q (λ i l. h i (omega arith)))
 
+-- one more number looked at
+pub all_step : (p : ℕ → Bool) (l : List ℕ) (i : ℕ) {all r : Bool} → all ≡ all_to i (λ j. p (get_or l j 0)) → r ≡ p (get_or l i 0)
+    → (all && r) ≡ all_to (i + 1) (λ j. p (get_or l j 0))
+all_step p l i {all} {r} e q = rw (add-one i, ← e, ← q) (and_comm all r)
+
 -- two sorts that a third is made of
 pub count-sum : (p q r : ℕ → Bool) → ((x : ℕ) → bit (p x) + bit (q x) ≡ bit (r x)) → (l : List ℕ) → count p l + count q l ≡ count r l
 count-sum p q r h [] = refl
@@ -39,6 +45,11 @@ count-each p (x ∷ l) h = omega (arith, ap bit (h 0 (omega arith)), count-each 
 -- two sorts that all are made of
 pub count-two : (p q : ℕ → Bool) → ((x : ℕ) → bit (p x) + bit (q x) ≡ 1) → (l : List ℕ) → count p l + count q l ≡ length l
 count-two p q h l = count-sum p q (λ x. true) h l ∙ count-each (λ x. true) l (λ i k. refl)
+
+-- 0, or above
+pub zero_sides : (x : ℕ) → bit (ltb 0 x) + bit (eqb x 0) ≡ 1
+zero_sides zero = refl
+zero_sides (suc x) = rw (lt-ltb 0 (suc x) (omega arith), ne_eqb (suc x) 0 (λ (e : suc x ≡ 0). omega arith))
 
 -- above k, or at most k
 pub bit-sides : (k x : ℕ) → bit (ltb k x) + bit (leb x k) ≡ 1

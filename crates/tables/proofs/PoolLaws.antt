@@ -15,8 +15,7 @@ use Rattle.rules.specs.Lists.{bit, count, sum_to, count_to, all_to}
 use Rattle.rules.specs.Store.{is_hole, is_reserved, is_shared, block_bound, used, owes, owed, need, fits_pool, lowest_free}
 use Rattle.tables.specs.Tables.{Tallied, TableTrue}
 use Rattle.tables.specs.Tally.{some_reserved, takes_by, owes_by, InTable, OwedFrom, first_zero, HeldFrom}
-use Rattle.tables.specs.declared.groups.Sort.{Sort}
-use Rattle.tables.specs.Groups.{of_sort, group_at, group_all}
+use Rattle.tables.specs.Groups.{group_at, group_all}
 use Rattle.rules.proofs.CountLaws.{sum_to_ext, count-drop, count-parts, count_most}
 use Rattle.rules.proofs.NeedLaws.{lowest_free-free, scan-ends, used-to}
 use Rattle.rules.proofs.BoundLaws.{count_right, owed-reserved, need-bound, owed-alone}
@@ -107,10 +106,10 @@ module _ (l : List ℕ) (b : ℕ) (inside : b < length l) where
     free = λ q. absurd (omega arith);
   }
 
-  pub held_group : group_all (of_sort (Sort.Above 0)) l b ≡ true → HeldFrom l b 16
+  pub held_group : group_all (ltb 0) l b ≡ true → HeldFrom l b 16
   held_group e = record {
-    inside = group_inside (of_sort (Sort.Above 0)) l b e;
-    held = λ j h. ltb-true 0 (get_or l (b + j) 0) (group_each (of_sort (Sort.Above 0)) l b e j h);
+    inside = group_inside (ltb 0) l b e;
+    held = λ j h. ltb-true 0 (get_or l (b + j) 0) (group_each (ltb 0) l b e j h);
     free = λ q. absurd (omega arith);
   }
 

@@ -5,7 +5,7 @@ use mathlib.Core.Bool.{Bool, true, false, ◌&&◌, ◌||◌, not}
 use mathlib.Core.List.{List, [], ◌∷◌}
 use mathlib.Core.Logic.{◌≢◌}
 use native.Mathlib.Nat.{mul-le-mul_right}
-use native.Mathlib.Numerals.{add-one, sub-one}
+use native.Mathlib.Numerals.{add-one}
 use native.Mathlib.Omega.{arith}
 use borrow.Author.Tests.{eqb-true, eqb-false, eq-eqb, ne_eqb, lt-ltb}
 use lib.ListN.{length, get_or, set, drop, drop_of_length-le, length-take}
@@ -19,23 +19,9 @@ use Rattle.rules.proofs.EmptyingLaws.{alone-cut, file-parts}
 use Rattle.rules.proofs.PlanLaws.{InPool}
 use Rattle.tables.specs.Tally.{forgot, Forgettable, NotesFit, NotedAll, owes_by}
 use Rattle.tables.specs.Space.{Counted, block_free, ForgotLast, held_only, ForgotAll, SlotsKnown, SlotsSpace, SpaceKnown, SpaceIs}
-use Rattle.rules.proofs.GeometryLaws.{good}
 use Rattle.tables.proofs.TallyLaws.{pool-part}
 use Rattle.tables.proofs.PoolLaws.{count_ext, pool-top, takes_same}
 use Rattle.tables.proofs.WordLaws.{length-forgot, forgot-at}
-
--- ---- one slot forgotten: the ways out of `forget_last`
-
-module _ {w : ℕ} {before after : List ℕ} (table : after ≡ forgot (w / 2) before) where
-  pub hole_forgotten : w / 2 ≡ 0 → ForgotLast w 0 before after
-  hole_forgotten e = record { table = table; last = rw (eq-eqb (w / 2) 0 e) }
-
-  module _ (d : w / 2 ≢ 0) where
-    pub last_forgotten : get_or after (w / 2 - 1) 0 ≡ 0 → ForgotLast w 1 before after
-    last_forgotten e = record { table = table; last = rw (ne_eqb (w / 2) 0 d, ← sub-one (w / 2), eq-eqb (get_or after (w / 2 - 1) 0) 0 e) }
-
-    pub one_forgotten : get_or after (w / 2 - 1) 0 ≢ 0 → ForgotLast w 0 before after
-    one_forgotten e = record { table = table; last = rw (ne_eqb (w / 2) 0 d, ← sub-one (w / 2), ne_eqb (get_or after (w / 2 - 1) 0) 0 e) }
 
 -- ---- blocks that slots hold alone, by the counts: what forgetting the first slot does to their number
 
@@ -112,8 +98,8 @@ module _ {ws before counts : List ℕ} {n i : ℕ} (known : Counted ws before) (
     pub forget_asks : Forgettable (get_or ws i 0) counts
     forget_asks = record { pool = pool; held = λ h. holder (get_or ws i 0 / 2 - 1) (omega (arith, pool)) (omega arith) }
 
-    pub forgetting_more : {m : ℕ} {after : List ℕ} → ForgotLast (get_or ws i 0) m counts after → Forgetting ws before after (n + m) (i + 1)
-    forgetting_more {m} {after} t =
+    pub forgetting_more : {last : Bool} {m : ℕ} {after : List ℕ} → ForgotLast (get_or ws i 0) last counts after → m ≡ bit last → Forgetting ws before after (n + m) (i + 1)
+    forgetting_more {last} {m} {after} t is =
         let k : ℕ = get_or ws i 0 / 2 in
         let long₁ : length (forgot k counts) ≡ length counts = length-forgot k counts in
         let cut : drop i ws ≡ get_or ws i 0 ∷ drop (suc i) ws = drop-cons ws i 0 inside in
@@ -125,7 +111,7 @@ module _ {ws before counts : List ℕ} {n i : ℕ} (known : Counted ws before) (
               omega (arith, f.each b l, forgot-at k counts b l (holder b l), count-drop (holds b) ws i inside);
           rest = rw long₁ (omega (
             arith,
-            rw t.table at t.last,
+            is ∙ ap bit (rw t.table at t.last_is),
             last_turn (get_or ws i 0) (drop (suc i) ws) counts pool (λ b h. rw cut at (left b h)),
             rw cut at f.rest,
           ));
@@ -206,7 +192,7 @@ module _ {g : Geometry} {ws counts : List ℕ} {f : ℕ} (known : SpaceKnown g w
   pub slots-known : SlotsKnown (slots_of g ws f) counts
   slots-known = record {
     counted = record { pool = own-pool; held = λ b h. omega (arith, split b h) };
-    looked_up = record { pool = own-pool; some = known.counted.some; few = omega (arith, own-short, (good g known.geometry).slots_most) };
+    looked_up = record { pool = own-pool; some = known.counted.some; few = omega (arith, own-short, slots-inside, known.counted.few) };
     few = λ b h. omega (arith, known.counted.table.each b h, count_most (holds b) ws, known.counted.few);
   }
 

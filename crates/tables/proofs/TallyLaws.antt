@@ -1,6 +1,6 @@
 -- Laws on the table of holders: how slots are noted in it, one by one, in groups and file by file.
 use Prim.Native.Nat.{ℕ, zero, suc, pred, ◌+◌, ◌-◌, ◌*◌, ◌/◌, ◌%◌, ◌≤◌, ◌<◌}
-use mathlib.Core.Path.{◌≡◌, refl, sym, ap, ◌∙◌}
+use mathlib.Core.Path.{◌≡◌, refl, sym, ap, subst, ◌∙◌}
 use mathlib.Core.Bool.{Bool, true, false, cond, ◌||◌}
 use mathlib.Core.List.{List}
 use mathlib.Core.Logic.{◌≢◌}
@@ -14,8 +14,7 @@ use lib.Seq.{get_or-set_same, get_or-set_other, set-get_or, get_or-take, get_or-
 use lib.Dec.{leb, ltb, eqb, eqb-suc-zero}
 use Rattle.rules.specs.Lists.{bit, count, all_to}
 use Rattle.rules.specs.Store.{is_hole, holds, holders}
-use Rattle.tables.specs.Tally.{noted, holds_one, Scannable, Known, HoldAll, NotesFit, NotesFitAs, NotesFitFrom, NotedAll, NotedFrom}
-use Rattle.tables.specs.declared.tally.Slots.{Slots}
+use Rattle.tables.specs.Tally.{noted, holds_one, Scannable, Known, HoldAll, Notable, NotesFit, NotesFitAs, NotesFitFrom, NotedAll, NotedFrom}
 use Rattle.tables.specs.Groups.{group_at}
 use Rattle.rules.proofs.CountLaws.{count-drop, count-parts, count-end, count_most, count-all-at}
 use Rattle.rules.proofs.BoundLaws.{holders-held}
@@ -170,11 +169,12 @@ all_held l e i h = omega (arith, ltb-true 1 (get_or l i 0) (count-all-at (ltb 1)
 pub all-holes : (l cs : List ℕ) → count (ltb 1) l ≡ 0 → NotedAll l cs cs
 all-holes l cs e = record { long = refl; each = λ b h. omega (arith, holders-held b l, e) }
 
--- what is known of all is known of each
-pub known_at : (slots : Slots) (ws before counts : List ℕ) (i : ℕ) → i < length ws → length counts ≡ length before
-    → Known slots ((j : ℕ) → j < length ws → 0 < get_or ws j 0 / 2) (length ws ≤ length before) → Known slots (0 < get_or ws i 0 / 2) (i < length counts)
-known_at Slots.Held ws before counts i h e all = all i h
-known_at Slots.Mixed ws before counts i h e l = omega arith
+-- which of the two is known
+pub known_held : {t : Bool} → t ≡ true → (held room : Type 0) → Known t held room → held
+known_held e held room k = subst (λ (b : Bool). Known b held room) e k
+
+pub known_room : {t : Bool} → t ≡ false → (held room : Type 0) → Known t held room → room
+known_room e held room k = subst (λ (b : Bool). Known b held room) e k
 
 -- one slot noted
 pub noted_one : (ws cs : List ℕ) (i : ℕ) → i < length ws → NotedFrom ws i 1 cs (noted (get_or ws i 0 / 2) cs)
@@ -191,6 +191,13 @@ pub record Noting (ws before counts : List ℕ) (i : ℕ) : Type 0 where
   pub within : i ≤ length ws
   pub long : length counts ≡ length before
   pub each : (b : ℕ) → b < length counts → get_or counts b 0 + holders b (drop i ws) ≡ get_or before b 0 + holders b ws
+
+-- a word can be noted where those before it are
+pub notable_at : {ws before counts : List ℕ} {i : ℕ} → NotesFit ws before → Noting ws before counts i → Notable (get_or ws i 0) counts
+notable_at {ws} {before} {counts} {i} f v = record {
+  pool = omega (arith, f.pool i, v.long);
+  few = λ b h. omega (arith, v.each b h, f.few b (omega (arith, v.long)));
+}
 
 pub noting_none : (ws before : List ℕ) → Noting ws before before 0
 noting_none ws before = record { within = omega arith; long = refl; each = λ b h. refl }
@@ -215,17 +222,17 @@ module _ (ws cs : List ℕ) (i : ℕ) where
   sixteen = omega arith
 
   -- what `note_each` asks
-  group_known : (slots : Slots) → i + 16 ≤ length ws → 16 ≤ length cs → HoldAll slots ws
-      → Known slots ((j : ℕ) → j < length (take 16 (drop i ws)) → 0 < get_or (take 16 (drop i ws)) j 0 / 2) (length (take 16 (drop i ws)) ≤ length cs)
-  group_known Slots.Held room l all = λ j h.
+  group_known : (t : Bool) → i + 16 ≤ length ws → 16 ≤ length cs → HoldAll t ws
+      → Known t ((j : ℕ) → j < length (take 16 (drop i ws)) → 0 < get_or (take 16 (drop i ws)) j 0 / 2) (length (take 16 (drop i ws)) ≤ length cs)
+  group_known true room l all = λ j h.
       let k : j < 16 = omega (arith, length-take 16 (drop i ws)) in
       rw (get_or-take 16 (drop i ws) j 0 k, get_or-drop i ws j 0) (all (i + j) (omega arith))
-  group_known Slots.Mixed room l t = omega (arith, length-take 16 (drop i ws))
+  group_known false room l t = omega (arith, length-take 16 (drop i ws))
 
-  pub group_fits : {slots : Slots} → group_at i (length ws) ≡ true → NotesFitFrom slots ws cs i → 16 ≤ length cs
-      → NotesFitAs slots (take (i + 16 - i) (drop i ws)) cs
+  pub group_fits : {t : Bool} → group_at i (length ws) ≡ true → NotesFitFrom t ws cs i → 16 ≤ length cs
+      → NotesFitAs t (take (i + 16 - i) (drop i ws)) cs
   unfolding sixteen
-  group_fits {slots} group f l =
+  group_fits {t} group f l =
       rw sixteen
       (record {
         fits = record {
@@ -233,7 +240,7 @@ module _ (ws cs : List ℕ) (i : ℕ) where
           few = λ b h. omega (arith, f.few b h, count-from (holds b) i 16 ws);
           short = omega (arith, length-take 16 (drop i ws));
         };
-        known = group_known slots (group_room i (length ws) group) l f.known;
+        known = group_known t (group_room i (length ws) group) l f.known;
       })
 
   pub noted_group : group_at i (length ws) ≡ true → {after : List ℕ} → NotedAll (take (i + 16 - i) (drop i ws)) cs after → NotedFrom ws i 16 cs after

@@ -1,16 +1,6 @@
 -- Groups of sixteen, in which tables are looked at.
-use Rattle.std.specs.Prelude.{ℕ, ◌+◌, ◌-◌, ◌%◌, Bool, ◌&&◌, not, List, length, get_or, leb, ltb, eqb}
+use Rattle.std.specs.Prelude.{ℕ, ◌+◌, ◌-◌, ◌%◌, Bool, ◌&&◌, List, length, get_or, leb, eqb}
 use Rattle.rules.specs.Lists.{all_to}
-use Rattle.rules.specs.Store.{is_reserved}
-use Rattle.tables.specs.declared.groups.Sort.{Sort}
-
--- what is asked of a number; a slot's word can be reserved
-abbrev pub of_sort : Sort → ℕ → Bool
-of_sort (Sort.AtMost m) n = leb n m
-of_sort (Sort.Above m) n = ltb m n
-of_sort (Sort.Equal m) n = eqb n m
-of_sort Sort.Reserved w = is_reserved w
-of_sort Sort.Unreserved w = not (is_reserved w)
 
 -- a whole group of n numbers starts at i
 abbrev pub group_at : ℕ → ℕ → Bool

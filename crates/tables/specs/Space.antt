@@ -1,7 +1,7 @@
 -- The room that a file takes, by the table of holders: what is asked and answered, and the passes over the table.
-use Rattle.std.specs.Prelude.{ℕ, pred, ◌+◌, ◌*◌, ◌/◌, ◌≤◌, ◌<◌, ◌≡◌, Bool, true, ◌&&◌, not, List, length, get_or, ltb, eqb}
-use Rattle.rules.specs.Lists.{bit, count, count_to}
-use Rattle.rules.specs.Store.{Geometry, good_geometry, is_hole, holders}
+use Rattle.std.specs.Prelude.{ℕ, pred, ◌+◌, ◌*◌, ◌/◌, ◌≤◌, ◌<◌, ◌≡◌, Bool, ◌&&◌, not, List, length, get_or, ltb, eqb}
+use Rattle.rules.specs.Lists.{count, count_to}
+use Rattle.rules.specs.Store.{Geometry, is_hole, holders}
 use Rattle.rules.specs.Attributes.{slots_of, takes_room, freed_blocks}
 use Rattle.rules.proofs.PlanLaws.{InPool}
 use Rattle.tables.specs.Tables.{TableTrue}
@@ -18,10 +18,10 @@ pub record Counted (ws counts : List ℕ) : Type 0 where
 abbrev pub block_free : List ℕ → ℕ → Bool
 block_free counts w = not (is_hole w) && eqb (get_or counts (pred (w / 2)) 0) 0
 
--- one slot forgotten, with word w: 1 where it was the last holder of its block
-pub record ForgotLast (w n : ℕ) (before after : List ℕ) : Type 0 where
+-- one slot forgotten, with word w; whether it was the last holder of its block
+pub record ForgotLast (w : ℕ) (last : Bool) (before after : List ℕ) : Type 0 where
   pub table : after ≡ forgot (w / 2) before
-  pub last : n ≡ bit (block_free after w)
+  pub last_is : last ≡ block_free after w
 
 -- by the counts, block b is held by slots ws and by no other
 abbrev pub held_only : List ℕ → List ℕ → ℕ → Bool
@@ -49,7 +49,6 @@ pub record SlotsSpace (ws : List ℕ) (used freed : ℕ) (before after : List �
 
 -- Where a file's room is counted: a true table of holders, and the file's slots among the words.
 pub record SpaceKnown (g : Geometry) (ws counts : List ℕ) (f : ℕ) : Type 0 where
-  pub geometry : good_geometry g ≡ true
   pub counted : TableTrue ws counts
   pub slots : length ws ≡ g.F * g.S
   pub file : f < g.F

@@ -1,10 +1,9 @@
 -- The table of holders, filled by one pass over the slot words, and what is read off it.
-use Rattle.std.specs.Prelude.{ℕ, zero, suc, pred, ◌+◌, ◌-◌, ◌/◌, ◌≤◌, ◌<◌, ◌≡◌, Bool, ◌&&◌, ◌||◌, List, [], ◌∷◌, length, get_or, set, drop, leb, ltb}
+use Rattle.std.specs.Prelude.{ℕ, zero, suc, pred, ◌+◌, ◌-◌, ◌/◌, ◌≤◌, ◌<◌, ◌≡◌, Bool, true, false, ◌&&◌, ◌||◌, List, [], ◌∷◌, length, get_or, set, drop, leb, ltb}
 use Rattle.rules.specs.Lists.{count}
 use Rattle.rules.specs.Store.{is_hole, is_reserved, holders}
 use Rattle.rules.proofs.PlanLaws.{InPool}
 use Rattle.tables.specs.Tables.{TableTrue}
-use Rattle.tables.specs.declared.tally.Slots.{Slots}
 
 -- a slot with word w holds one of n blocks
 abbrev pub holds_one : ℕ → ℕ → Bool
@@ -40,14 +39,9 @@ pub record Notable (w : ℕ) (counts : List ℕ) : Type 0 where
   pub few : (b : ℕ) → b < length counts → get_or counts b 0 ≤ 65536
 
 -- what is known of slots: that they hold blocks, or that there is room for holes to add nothing to
-abbrev pub Known : Slots → Type 0 → Type 0 → Type 0
-Known Slots.Held held room = held
-Known Slots.Mixed held room = room
-
--- a slot of which that is known, `own` being the number that it may add nothing to
-pub record NotableAs (slots : Slots) (w own : ℕ) (counts : List ℕ) : Type 0 where
-  pub fits : Notable w counts
-  pub known : Known slots (0 < w / 2) (own < length counts)
+abbrev pub Known : Bool → Type 0 → Type 0 → Type 0
+Known true held room = held
+Known false held room = room
 
 -- words noted one after the other: their blocks are in the table, and no count grows too large
 pub record NotesFit (ws counts : List ℕ) : Type 0 where
@@ -56,22 +50,22 @@ pub record NotesFit (ws counts : List ℕ) : Type 0 where
   pub short : length ws ≤ 65536
 
 -- the same of words that have each a number of the table
-pub record NotesFitAs (slots : Slots) (ws counts : List ℕ) : Type 0 where
+pub record NotesFitAs (held : Bool) (ws counts : List ℕ) : Type 0 where
   pub fits : NotesFit ws counts
-  pub known : Known slots ((i : ℕ) → i < length ws → 0 < get_or ws i 0 / 2) (length ws ≤ length counts)
+  pub known : Known held ((i : ℕ) → i < length ws → 0 < get_or ws i 0 / 2) (length ws ≤ length counts)
 
 -- each of the slots holds a block, if that is said of them
-abbrev pub HoldAll : Slots → List ℕ → Type 0
-HoldAll slots ws = Known slots ((i : ℕ) → i < length ws → 0 < get_or ws i 0 / 2) (Unit {0})
+abbrev pub HoldAll : Bool → List ℕ → Type 0
+HoldAll held ws = Known held ((i : ℕ) → i < length ws → 0 < get_or ws i 0 / 2) (Unit {0})
 
 -- words that are noted in groups
-pub record GroupsFit (slots : Slots) (ws counts : List ℕ) : Type 0 where
+pub record GroupsFit (held : Bool) (ws counts : List ℕ) : Type 0 where
   pub fits : NotesFit ws counts
-  pub known : HoldAll slots ws
+  pub known : HoldAll held ws
 
 -- the words from place i on are still to be noted, at least one
-pub record NotesFitFrom (slots : Slots) (ws counts : List ℕ) (i : ℕ) : Type 0 where
-  pub known : HoldAll slots ws
+pub record NotesFitFrom (held : Bool) (ws counts : List ℕ) (i : ℕ) : Type 0 where
+  pub known : HoldAll held ws
   pub pool : InPool (length counts) ws
   pub few : (b : ℕ) → b < length counts → get_or counts b 0 + holders b (drop i ws) ≤ 65536
   pub some : i < length ws

@@ -7,65 +7,48 @@ ghost use Rattle.tables.specs.Tables.{FileKnown};
 ghost use Rattle.tables.specs.Viewed.{view_store};
 
 use crate::geometry::Geometry;
-use crate::groups::{Sort, all_of_sort};
+use crate::groups::all_where;
 use crate::lent::View;
 
-// Whether a byte is 0 and those before are.
-fn zero_too(before: bool, byte: u8) -> bool
-    ensures { result ≡ (eqb byte 0 && before) }
-{
-    (byte == 0) & before
-}
-
 // Whether every byte is 0.
-pub fn zero_bytes(s: &[u8]) -> bool
-    ensures { result ≡ all_to (length s.now) (λ j. eqb (get_or s.now j 0) 0) }
+pub fn zero_bytes(bytes: &[u8]) -> bool
+    ensures { result ≡ all_to (length bytes.now) (λ j. eqb (get_or bytes.now j 0) 0) }
 {
     let mut all = true;
-    let mut i = 0;
-    while i < s.len() {
-        all = zero_too(all, s[i]);
-        i += 1;
+    for byte in bytes {
+        all &= *byte == 0;
     }
     all
 }
 
-// Whether the slots of file f are 0 from slot `from` on.
-fn slots_zero(g: Geometry, words: &[u32], f: usize, from: usize) -> bool
-    requires { (f * g.slots + g.slots ≤ length words.now) × (from ≤ g.slots) }
-    ensures { result ≡ all_to g.slots (λ k. ltb k from || eqb (word_of (geometry_of g) words.now f k) 0) }
+// Whether the slots of a file are 0 from slot `from` on.
+fn slots_zero(geometry: Geometry, words: &[u32], file: usize, from: usize) -> bool
+    requires { (file * geometry.slots + geometry.slots ≤ length words.now) × (from ≤ geometry.slots) }
+    ensures { result ≡ all_to geometry.slots (λ k. ltb k from || eqb (word_of (geometry_of geometry) words.now file k) 0) }
 {
-    let at = f * g.slots;
-    let start = at + from;
-    let end = at + g.slots;
-    all_of_sort(Sort::AtMost(0), &words[start..end])
+    let at = file * geometry.slots;
+    all_where(&words[at + from..at + geometry.slots], |word| word == 0)
 }
 
-// Whether the bytes of the slot with word w are 0 from place `from` on. In a hole they are.
-fn tail_zero(g: Geometry, mem: &[u8], w: u32, from: usize) -> bool
-    requires { (w / 2 * g.block_size ≤ length mem.now) × (from ≤ g.block_size) }
-    ensures { result ≡ all_to (g.block_size - from) (λ j. eqb (slot_byte (geometry_of g) mem.now w (from + j)) 0) }
+// Whether the bytes of the slot with this word are 0 from place `from` on. In a hole they are.
+fn tail_zero(geometry: Geometry, memory: &[u8], word: u32, from: usize) -> bool
+    requires { (word / 2 * geometry.block_size ≤ length memory.now) × (from ≤ geometry.block_size) }
+    ensures { result ≡ all_to (geometry.block_size - from) (λ j. eqb (slot_byte (geometry_of geometry) memory.now word (from + j)) 0) }
 {
-    let b = (w / 2) as usize;
-    if b == 0 {
+    let block = (word / 2) as usize;
+    if block == 0 {
         return true;
     }
-    let at = (b - 1) * g.block_size;
-    let start = at + from;
-    let end = at + g.block_size;
-    zero_bytes(&mem[start..end])
+    let at = (block - 1) * geometry.block_size;
+    zero_bytes(&memory[at + from..at + geometry.block_size])
 }
 
-// How many slots of b bytes a file of that size has, from one division.
-pub fn slots_of(size: usize, b: usize) -> usize
-    requires { (0 < b) × (size ≤ 4194304) }
-    ensures { result ≡ ceil_div size b }
+// How many slots a file of that size has.
+pub fn slots_of(size: usize, block_size: usize) -> usize
+    requires { (0 < block_size) × (size ≤ 4194304) }
+    ensures { result ≡ ceil_div size block_size }
 {
-    let whole = size / b;
-    if size % b == 0 {
-        return whole;
-    }
-    whole + 1
+    size.div_ceil(block_size)
 }
 
 // Whether a file is sound. Of the block memory only the bytes past the size, in its last slot's block, are read.

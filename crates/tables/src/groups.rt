@@ -1,19 +1,8 @@
 // Tables of numbers looked at flat: a loop has no way out and no branch on a number, so that several are looked at a time. Where many
-// numbers of one sort are expected, a table is looked at in groups.
-ghost use Rattle.std.specs.Prelude.{◌≡◌, ◌&&◌, ◌<◌, ◌≤◌, length, get_or};
-ghost use Rattle.rules.specs.Lists.{all_to, bit, count};
-ghost use Rattle.tables.specs.Groups.{group_at, of_sort, group_all};
-
-// What is asked of a number.
-#[derive(Clone, Copy)]
-pub enum Sort {
-    AtMost(u32),
-    Above(u32),
-    Equal(u32),
-    // The word of a slot: it is reserved, or it is not.
-    Reserved,
-    Unreserved,
-}
+// numbers are expected to pass a test, a table is looked at in groups.
+ghost use Rattle.std.specs.Prelude.{◌≡◌, ◌&&◌, ◌<◌, ◌≤◌, ℕ, Bool, length, get_or};
+ghost use Rattle.rules.specs.Lists.{all_to, count};
+ghost use Rattle.tables.specs.Groups.{group_at, group_all};
 
 #[derive(Clone, Copy)]
 pub struct Group {}
@@ -27,75 +16,39 @@ pub fn group_at(i: usize, n: usize) -> bool
     requires { i ≤ n }
     ensures { result ≡ group_at i n }
 {
-    if i % Group::SIZE != 0 {
-        return false;
-    }
-    Group::SIZE <= n - i
+    i % Group::SIZE == 0 && Group::SIZE <= n - i
 }
 
-pub fn of_sort(sort: Sort, n: u32) -> bool
-    ensures { result ≡ of_sort sort n }
-{
-    match sort {
-        Sort::AtMost(most) => n <= most,
-        Sort::Above(least) => least < n,
-        Sort::Equal(m) => n == m,
-        Sort::Reserved => n % 2 == 1,
-        Sort::Unreserved => n % 2 != 1,
-    }
-}
-
-// Whether n is of that sort and those before are.
-fn of_sort_too(sort: Sort, before: bool, n: u32) -> bool
-    ensures { result ≡ (of_sort sort n && before) }
-{
-    of_sort(sort, n) & before
-}
-
-// Whether each number is of that sort.
-pub fn all_of_sort(sort: Sort, numbers: &[u32]) -> bool
-    ensures { result ≡ all_to (length numbers.now) (λ i. of_sort sort (get_or numbers.now i 0)) }
+// Whether each number passes a test.
+pub fn all_where<F: Fn(u32) -> bool>(numbers: &[u32], passes: F) -> bool
+    requires { F.IsAlwaysCallable passes }
+    ensures { (p : ℕ → Bool) → ((n : ℕ) (b : Bool) → F.post passes n b → b ≡ p n) → result ≡ all_to (length numbers.now) (λ i. p (get_or numbers.now i 0)) }
 {
     let mut all = true;
-    let mut i = 0;
-    while i < numbers.len() {
-        all = of_sort_too(sort, all, numbers[i]);
-        i += 1;
+    for number in numbers {
+        all &= passes(*number);
     }
     all
 }
 
-// 1 where n is of that sort, else 0.
-pub fn bit_of_sort(sort: Sort, n: u32) -> u32
-    ensures { result ≡ bit (of_sort sort n) }
+// How many numbers pass a test. The sum has 32 bits, as they have.
+pub fn count_where<F: Fn(u32) -> bool>(numbers: &[u32], passes: F) -> usize
+    requires callable { F.IsAlwaysCallable passes }
+    requires few { length numbers.now ≤ 65536 }
+    ensures { (p : ℕ → Bool) → ((n : ℕ) (b : Bool) → F.post passes n b → b ≡ p n) → result ≡ count p numbers.now }
 {
-    if of_sort(sort, n) {
-        return 1;
+    let mut sum = 0u32;
+    for number in numbers {
+        sum += u32::from(passes(*number));
     }
-    0
+    sum as usize
 }
 
-// How many numbers are of that sort. The sum has 32 bits, as they have.
-pub fn count_of_sort(sort: Sort, numbers: &[u32]) -> usize
-    requires { length numbers.now ≤ 65536 }
-    ensures { result ≡ count (of_sort sort) numbers.now }
+// Whether a group starts at i, and each of its numbers passes a test.
+pub fn group_where<F: Fn(u32) -> bool>(numbers: &[u32], i: usize, passes: F) -> bool
+    requires callable { F.IsAlwaysCallable passes }
+    requires inside { i < length numbers.now }
+    ensures { (p : ℕ → Bool) → ((n : ℕ) (b : Bool) → F.post passes n b → b ≡ p n) → result ≡ group_all p numbers.now i }
 {
-    let mut n: u32 = 0;
-    let mut i = 0;
-    while i < numbers.len() {
-        n += bit_of_sort(sort, numbers[i]);
-        i += 1;
-    }
-    n as usize
-}
-
-// Whether a group starts at i, and each of its numbers is of that sort.
-pub fn group_of_sort(sort: Sort, numbers: &[u32], i: usize) -> bool
-    requires { i < length numbers.now }
-    ensures { result ≡ group_all (of_sort sort) numbers.now i }
-{
-    if !group_at(i, numbers.len()) {
-        return false;
-    }
-    all_of_sort(sort, &numbers[i..i + Group::SIZE])
+    group_at(i, numbers.len()) && all_where(&numbers[i..i + Group::SIZE], passes)
 }

@@ -1,11 +1,11 @@
 // What is read off the table of holders: used and owed blocks, whether they fit the pool, and the lowest free block.
 ghost use Rattle.std.specs.Prelude.{◌≡◌, ◌/◌, ◌<◌, ◌≤◌, length, ltb};
-ghost use Rattle.rules.specs.Lists.{bit, count};
+ghost use Rattle.rules.specs.Lists.{count};
 ghost use Rattle.rules.specs.Store.{fits_pool};
 ghost use Rattle.tables.specs.Tables.{TableTrue};
 ghost use Rattle.tables.specs.Tally.{takes_by, owes_by, InTable, OwedFrom, OwedKnown, RoomKnown, first_zero, HeldFrom};
 
-use crate::groups::{Group, Sort, all_of_sort, count_of_sort, group_at, group_of_sort};
+use crate::groups::{Group, all_where, count_where, group_at, group_where};
 use crate::tally::block_or;
 
 // How many blocks have a holder: all but the free ones.
@@ -13,27 +13,24 @@ pub fn used_blocks(counts: &[u32]) -> usize
     requires { length counts.now ≤ 65536 }
     ensures { result ≡ count (ltb 0) counts.now }
 {
-    counts.len() - count_of_sort(Sort::AtMost(0), counts)
+    counts.len() - count_where(counts, |holders| holders == 0)
 }
 
-// Whether a slot with word w is a hole or holds a shared block. A hole reads a count too: nothing is guessed.
-pub fn takes_block(w: u32, counts: &[u32]) -> bool
-    requires { (w / 2 ≤ length counts.now) × (0 < length counts.now) }
-    ensures { result ≡ takes_by counts.now w }
+// Whether a slot with this word is a hole or holds a shared block. A hole reads a count too: nothing is guessed.
+pub fn takes_block(word: u32, counts: &[u32]) -> bool
+    requires { (word / 2 ≤ length counts.now) × (0 < length counts.now) }
+    ensures { result ≡ takes_by counts.now word }
 {
-    let shared = 1 < counts[block_or(w, 0)];
-    (w / 2 == 0) | shared
+    let shared = 1 < counts[block_or(word, 0)];
+    (word / 2 == 0) | shared
 }
 
-// 1 where a slot with word w owes a block, else 0.
-fn owes_block(w: u32, counts: &[u32]) -> u32
-    requires { (w / 2 ≤ length counts.now) × (0 < length counts.now) }
-    ensures { result ≡ bit (owes_by counts.now w) }
+// Whether a slot with this word owes a block.
+fn owes_block(word: u32, counts: &[u32]) -> bool
+    requires { (word / 2 ≤ length counts.now) × (0 < length counts.now) }
+    ensures { result ≡ owes_by counts.now word }
 {
-    if takes_block(w, counts) & (w % 2 == 1) {
-        return 1;
-    }
-    0
+    takes_block(word, counts) & (word % 2 == 1)
 }
 
 // How many of these slots owe a block.
@@ -41,44 +38,26 @@ fn owed_each(words: &[u32], counts: &[u32]) -> usize
     requires { InTable words.now counts.now }
     ensures { result ≡ count (owes_by counts.now) words.now }
 {
-    let mut n: u32 = 0;
-    let mut i = 0;
-    while i < words.len() {
-        n += owes_block(words[i], counts);
-        i += 1;
+    let mut sum = 0u32;
+    for word in words {
+        sum += u32::from(owes_block(*word, counts));
     }
-    n as usize
+    sum as usize
 }
 
-// Slots that were looked at, and how many of them owe a block.
-#[derive(Clone, Copy)]
-struct Owed {
-    slots: usize,
-    owed: usize,
-}
-
-// From slot i on: the group that starts there, or the slot.
-fn owed_from(words: &[u32], counts: &[u32], i: usize) -> Owed
+// How many slots are looked at from slot i on, the group that starts there or the slot, and how many of them owe a block.
+fn owed_from(words: &[u32], counts: &[u32], i: usize) -> (usize, usize)
     requires { InTable words.now counts.now × (i < length words.now) }
-    ensures { OwedFrom words.now counts.now i result.slots result.owed }
+    ensures { OwedFrom words.now counts.now i result.0 result.1 }
 {
     if !group_at(i, words.len()) {
-        return Owed {
-            slots: 1,
-            owed: owes_block(words[i], counts) as usize,
-        };
+        return (1, usize::from(owes_block(words[i], counts)));
     }
     let group = &words[i..i + Group::SIZE];
-    if count_of_sort(Sort::Reserved, group) == 0 {
-        return Owed {
-            slots: Group::SIZE,
-            owed: 0,
-        };
+    if count_where(group, |word| word % 2 == 1) == 0 {
+        return (Group::SIZE, 0);
     }
-    Owed {
-        slots: Group::SIZE,
-        owed: owed_each(group, counts),
-    }
+    (Group::SIZE, owed_each(group, counts))
 }
 
 // How many slots owe a block.
@@ -86,14 +65,14 @@ pub fn owed_slots(words: &[u32], counts: &[u32]) -> usize
     requires { InTable words.now counts.now }
     ensures { result ≡ count (owes_by counts.now) words.now }
 {
-    let mut n: usize = 0;
+    let mut sum = 0;
     let mut i = 0;
     while i < words.len() {
-        let o = owed_from(words, counts, i);
-        n += o.owed;
-        i += o.slots;
+        let (slots, owed) = owed_from(words, counts, i);
+        sum += owed;
+        i += slots;
     }
-    n
+    sum
 }
 
 // The same where so many slots hold a block, so many blocks are used, and a slot is reserved or none is. Without a reserved slot
@@ -106,7 +85,7 @@ pub fn owed_of(held: usize, used: usize, reserved: bool, words: &[u32], counts: 
         return 0;
     }
     if held == used {
-        return count_of_sort(Sort::Equal(1), words);
+        return count_where(words, |word| word == 1);
     }
     owed_slots(words, counts)
 }
@@ -121,7 +100,7 @@ pub fn fits_of(held: usize, reserved: bool, words: &[u32], counts: &[u32]) -> bo
     if !reserved {
         return true;
     }
-    if held + count_of_sort(Sort::Reserved, words) <= counts.len() {
+    if held + count_where(words, |word| word % 2 == 1) <= counts.len() {
         return true;
     }
     let used = used_blocks(counts);
@@ -133,21 +112,21 @@ pub fn fits_pool(words: &[u32], counts: &[u32]) -> bool
     requires { TableTrue words.now counts.now }
     ensures { result ≡ fits_pool (length counts.now) words.now }
 {
-    if all_of_sort(Sort::Unreserved, words) {
+    if all_where(words, |word| word % 2 != 1) {
         return true;
     }
-    fits_of(count_of_sort(Sort::Above(1), words), true, words, counts)
+    fits_of(count_where(words, |word| 1 < word), true, words, counts)
 }
 
-// How many blocks from b on are seen to be held: the group that starts there, block b, or none.
-fn held_from(counts: &[u32], b: usize) -> usize
-    requires { b < length counts.now }
-    ensures { HeldFrom counts.now b result }
+// How many blocks from a block on are seen to be held: the group that starts there, the block, or none.
+fn held_from(counts: &[u32], block: usize) -> usize
+    requires { block < length counts.now }
+    ensures { HeldFrom counts.now block result }
 {
-    if group_of_sort(Sort::Above(0), counts, b) {
+    if group_where(counts, block, |holders| 0 < holders) {
         return Group::SIZE;
     }
-    if counts[b] == 0 {
+    if counts[block] == 0 {
         return 0;
     }
     1
@@ -159,13 +138,13 @@ pub fn lowest_free(counts: &[u32], from: usize) -> usize
     requires { from ≤ first_zero counts.now }
     ensures { result ≡ first_zero counts.now }
 {
-    let mut b = from;
-    while b < counts.len() {
-        let n = held_from(counts, b);
+    let mut block = from;
+    while block < counts.len() {
+        let n = held_from(counts, block);
         if n == 0 {
-            return b;
+            return block;
         }
-        b += n;
+        block += n;
     }
-    b
+    block
 }

@@ -5,32 +5,28 @@ ghost use Rattle.tables.specs.Tally.{Forgettable};
 ghost use Rattle.tables.specs.Space.{Counted, ForgotLast, ForgotAll, SlotsKnown, SlotsSpace, SpaceKnown, SpaceIs};
 
 use crate::geometry::Geometry;
-use crate::groups::{Sort, count_of_sort};
+use crate::groups::count_where;
 use crate::pool::owed_slots;
 use crate::tally::note_all;
 use crate::words::forget;
 
 // Slots that hold a block or are reserved; and blocks that no other slot holds, with the slots that owe one.
-#[derive(Clone, Copy)]
+#[derive(Clone, Copy, Debug)]
 pub struct Space {
     pub used: usize,
     pub freed: usize,
 }
 
-// One holder less of the block of word w: 1 where it was the last, else 0. A hole gives 0.
-fn forget_last(counts: &mut [u32], w: u32) -> usize
-    requires { Forgettable w counts.old }
-    ensures { ForgotLast w result counts.old counts.new }
+// One holder less of the block of a word; whether it was the last. A hole has none.
+fn forget_last(counts: &mut [u32], word: u32) -> bool
+    requires { Forgettable word counts.old }
+    ensures { ForgotLast word result counts.old counts.new }
 {
-    forget(counts, w);
-    let k = (w / 2) as usize;
-    if k == 0 {
-        return 0;
+    forget(counts, word);
+    match word / 2 {
+        0 => false,
+        block => counts[block as usize - 1] == 0,
     }
-    if counts[k - 1] == 0 {
-        return 1;
-    }
-    0
 }
 
 // One holder less of its block for each word; how many blocks lost their last.
@@ -38,13 +34,11 @@ fn forget_all(words: &[u32], counts: &mut [u32]) -> usize
     requires { Counted words.now counts.old }
     ensures { ForgotAll words.now result counts.old counts.new }
 {
-    let mut n: usize = 0;
-    let mut i = 0;
-    while i < words.len() {
-        n += forget_last(counts, words[i]);
-        i += 1;
+    let mut alone = 0;
+    for word in words {
+        alone += usize::from(forget_last(counts, *word));
     }
-    n
+    alone
 }
 
 // The room of the slots with these words. The table is afterwards as it was.
@@ -52,7 +46,7 @@ fn slots_space(words: &[u32], counts: &mut [u32]) -> Space
     requires { SlotsKnown words.now counts.old }
     ensures { SlotsSpace words.now result.used result.freed counts.old counts.new }
 {
-    let used = count_of_sort(Sort::Above(0), words);
+    let used = count_where(words, |word| 0 < word);
     let owed = owed_slots(words, counts);
     let alone = forget_all(words, counts);
     note_all(words, counts);
@@ -62,12 +56,11 @@ fn slots_space(words: &[u32], counts: &mut [u32]) -> Space
     }
 }
 
-// The room of file f. The table of holders is afterwards as it was.
-pub fn file_space(g: Geometry, words: &[u32], counts: &mut [u32], f: usize) -> Space
-    requires { SpaceKnown (geometry_of g) words.now counts.old f }
-    ensures { SpaceIs (geometry_of g) words.now f result.used result.freed counts.old counts.new }
+// The room of a file. The table of holders is afterwards as it was.
+pub fn file_space(geometry: Geometry, words: &[u32], counts: &mut [u32], file: usize) -> Space
+    requires { SpaceKnown (geometry_of geometry) words.now counts.old file }
+    ensures { SpaceIs (geometry_of geometry) words.now file result.used result.freed counts.old counts.new }
 {
-    let at = f * g.slots;
-    let end = at + g.slots;
-    slots_space(&words[at..end], counts)
+    let at = file * geometry.slots;
+    slots_space(&words[at..at + geometry.slots], counts)
 }

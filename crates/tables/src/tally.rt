@@ -2,45 +2,41 @@
 ghost use Rattle.std.specs.Prelude.{◌≡◌, cond, pred, ◌+◌, ◌/◌, ◌<◌, ◌≤◌, length, get_or, leb, ltb, eqb, is_some, IfSome};
 ghost use Rattle.rules.specs.Lists.{all_to, bit, count};
 ghost use Rattle.rules.specs.Store.{is_hole};
-ghost use Rattle.tables.specs.Tally.{holds_one, Scannable, SlotCounts, SlotsCounted, noted, Notable, NotableAs, NotesFit, NotesFitAs, NotesFitFrom, GroupsFit, NotedAll, NotedFrom};
+ghost use Rattle.tables.specs.Tally.{holds_one, Scannable, SlotCounts, SlotsCounted, noted, Notable, NotesFit, NotesFitAs, NotesFitFrom, GroupsFit, NotedAll, NotedFrom};
 
 use crate::counted::Counted;
-use crate::groups::{Group, Sort, bit_of_sort, count_of_sort, group_at, of_sort};
+use crate::groups::{Group, count_where, group_at};
 
-// 1 where a slot with word w holds one of the blocks, else 0. Two less, the word of a hole is the greatest: one comparison tells.
-fn holds_one(w: u32, blocks: u32) -> u32
+// 1 where a slot with this word holds one of the blocks, else 0. Two less, the word of a hole is the greatest: one comparison tells.
+fn holds_one(word: u32, blocks: u32) -> u32
     requires { blocks ≤ 65536 }
-    ensures { result ≡ bit (holds_one blocks w) }
+    ensures { result ≡ bit (holds_one blocks word) }
 {
-    let less = ((w as u64 + 4294967294) % 4294967296) as u32;
-    if less < 2 * blocks {
-        return 1;
-    }
-    0
+    u32::from(word.wrapping_sub(2) < 2 * blocks)
 }
 
 // Whether the words of which so many hold a block are else holes.
 fn rest_holes(held: usize, words: &[u32]) -> bool
-    requires { (length words.now ≤ 65536) × (held + count (λ w. leb w 1) words.now ≤ length words.now) }
-    ensures { result ≡ eqb (held + count (λ w. leb w 1) words.now) (length words.now) }
+    requires { (length words.now ≤ 65536) × (held + count (λ word. leb word 1) words.now ≤ length words.now) }
+    ensures { result ≡ eqb (held + count (λ word. leb word 1) words.now) (length words.now) }
 {
     if held == words.len() {
         return true;
     }
-    held + count_of_sort(Sort::AtMost(1), words) == words.len()
+    held + count_where(words, |word| word <= 1) == words.len()
 }
 
-// None where a word names a block that is none of so many.
+// What one pass tells of slot words; None where one names a block that is none of so many.
 pub fn scan_words(words: &[u32], blocks: usize) -> Option<Counted>
     requires { (blocks ≤ 65536) × (length words.now ≤ 65536) }
     ensures formed { is_some result ≡ all_to (length words.now) (λ i. leb (get_or words.now i 0 / 2) blocks) }
     ensures counted { IfSome result (λ c. SlotCounts words.now c.held c.reserved) }
 {
-    let n = blocks as u32;
-    let mut sum = 0;
+    let blocks = blocks as u32;
+    let mut sum = 0u32;
     let mut reserved = false;
     for word in words {
-        sum += holds_one(*word, n);
+        sum += holds_one(*word, blocks);
         reserved |= *word % 2 == 1;
     }
     let held = sum as usize;
@@ -50,95 +46,78 @@ pub fn scan_words(words: &[u32], blocks: usize) -> Option<Counted>
     Some(Counted { held, reserved })
 }
 
-// One more holder of the block of word w; a hole has none.
-pub fn note(counts: &mut [u32], w: u32)
-    requires { Notable w counts.old }
-    ensures { counts.new ≡ noted (w / 2) counts.old }
+// One more holder of the block of a word; a hole has none.
+pub fn note(counts: &mut [u32], word: u32)
+    requires { Notable word counts.old }
+    ensures { counts.new ≡ noted (word / 2) counts.old }
 {
-    if w / 2 == 0 {
-        return;
+    if word / 2 != 0 {
+        note_held(counts, word);
     }
-    note_held(counts, w);
 }
 
 // The same of a slot that holds a block.
-fn note_held(counts: &mut [u32], w: u32)
-    requires { Notable w counts.old × (0 < w / 2) }
-    ensures { counts.new ≡ noted (w / 2) counts.old }
+fn note_held(counts: &mut [u32], word: u32)
+    requires { Notable word counts.old × (0 < word / 2) }
+    ensures { counts.new ≡ noted (word / 2) counts.old }
 {
-    let b = (w / 2) as usize - 1;
-    counts[b] = counts[b] + 1;
+    counts[(word / 2) as usize - 1] += 1;
 }
 
-// The block of word w, or `own` for a hole.
-pub fn block_or(w: u32, own: usize) -> usize
-    ensures { result ≡ cond (is_hole w) own (pred (w / 2)) }
+// The block of a word, or `own` for a hole.
+pub fn block_or(word: u32, own: usize) -> usize
+    ensures { result ≡ cond (is_hole word) own (pred (word / 2)) }
 {
-    let k = (w / 2) as usize;
-    if k == 0 {
-        return own;
+    match word / 2 {
+        0 => own,
+        block => block as usize - 1,
     }
-    k - 1
 }
 
 // The same of any slot without a branch: a hole adds nothing to the number at `own`.
-fn note_mixed(counts: &mut [u32], w: u32, own: usize)
-    requires { Notable w counts.old × (own < length counts.old) }
-    ensures { counts.new ≡ noted (w / 2) counts.old }
+fn note_mixed(counts: &mut [u32], word: u32, own: usize)
+    requires { Notable word counts.old × (own < length counts.old) }
+    ensures { counts.new ≡ noted (word / 2) counts.old }
 {
-    let b = block_or(w, own);
-    counts[b] = counts[b] + bit_of_sort(Sort::Above(1), w);
+    let b = block_or(word, own);
+    counts[b] += u32::from(1 < word);
 }
 
-// What is known of some slots: each holds a block, or nothing.
-#[derive(Clone, Copy)]
-pub enum Slots {
-    Held,
-    Mixed,
-}
-
-fn note_as(slots: Slots, counts: &mut [u32], w: u32, own: usize)
-    requires { NotableAs slots w own counts.old }
-    ensures { counts.new ≡ noted (w / 2) counts.old }
-{
-    match slots {
-        Slots::Held => note_held(counts, w),
-        Slots::Mixed => note_mixed(counts, w, own),
-    }
-}
-
-// One more holder of its block for each word. Holes add nothing to numbers of their own, so that none waits for the one before it.
-fn note_each(slots: Slots, words: &[u32], counts: &mut [u32])
-    requires { NotesFitAs slots words.now counts.old }
+// One more holder of its block for each word; HELD says that each holds one. Holes add nothing to numbers of their own, so that none waits
+// for the one before it.
+fn note_each<const HELD: bool>(words: &[u32], counts: &mut [u32])
+    requires { NotesFitAs HELD words.now counts.old }
     ensures { NotedAll words.now counts.old counts.new }
 {
-    let mut i = 0;
-    while i < words.len() {
-        note_as(slots, counts, words[i], i);
-        i += 1;
+    for (i, word) in words.iter().enumerate() {
+        if HELD {
+            note_held(counts, *word);
+        } else {
+            note_mixed(counts, *word, i);
+        }
     }
 }
 
 // The same from slot i on, of the group that starts there or of the slot: how many it were.
-fn note_from(slots: Slots, words: &[u32], counts: &mut [u32], i: usize) -> usize
-    requires { NotesFitFrom slots words.now counts.old i }
+fn note_from<const HELD: bool>(words: &[u32], counts: &mut [u32], i: usize) -> usize
+    requires { NotesFitFrom HELD words.now counts.old i }
     ensures { NotedFrom words.now i result counts.old counts.new }
 {
-    if group_at(i, words.len()) & (Group::SIZE <= counts.len()) {
-        note_each(slots, &words[i..i + Group::SIZE], counts);
+    if group_at(i, words.len()) && Group::SIZE <= counts.len() {
+        note_each::<HELD>(&words[i..i + Group::SIZE], counts);
         return Group::SIZE;
     }
     note(counts, words[i]);
     1
 }
 
-fn note_groups(slots: Slots, words: &[u32], counts: &mut [u32])
-    requires { GroupsFit slots words.now counts.old }
+fn note_groups<const HELD: bool>(words: &[u32], counts: &mut [u32])
+    requires { GroupsFit HELD words.now counts.old }
     ensures { NotedAll words.now counts.old counts.new }
 {
     let mut i = 0;
     while i < words.len() {
-        i += note_from(slots, words, counts, i);
+        i += note_from::<HELD>(words, counts, i);
     }
 }
 
@@ -151,17 +130,17 @@ fn note_counted(held: usize, words: &[u32], counts: &mut [u32])
         return;
     }
     if held == words.len() {
-        note_groups(Slots::Held, words, counts);
-        return;
+        note_groups::<true>(words, counts);
+    } else {
+        note_groups::<false>(words, counts);
     }
-    note_groups(Slots::Mixed, words, counts);
 }
 
 pub fn note_all(words: &[u32], counts: &mut [u32])
     requires { NotesFit words.now counts.old }
     ensures { NotedAll words.now counts.old counts.new }
 {
-    note_counted(count_of_sort(Sort::Above(1), words), words, counts);
+    note_counted(count_where(words, |word| 1 < word), words, counts);
 }
 
 // Scans slots and, where each names one of the blocks or none, notes them.

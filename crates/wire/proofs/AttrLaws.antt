@@ -1,22 +1,15 @@
--- Attributes that are selected by a test, one after the other: their bitmap, their values, and the room that these need.
-use Prim.Native.Nat.{ℕ, zero, suc, ◌+◌, ◌/◌, ◌%◌, ◌^◌, ◌≤◌, max}
+-- Attributes that are selected by a test, one after the other: their values as bytes, and how long these are.
+use Prim.Native.Nat.{ℕ, zero, suc, ◌+◌, ◌/◌, ◌%◌, ◌^◌}
 use mathlib.Core.Path.{◌≡◌, refl, ap}
 use mathlib.Core.Bool.{Bool, true, false, cond}
 use mathlib.Core.List.{List, [], ◌∷◌, ◌++◌, append-nil}
 use native.Mathlib.Nat.{div-one}
 use native.Mathlib.Omega.{arith}
-use lib.ListN.{length, take, length-append}
-use lib.Dec.{eqb}
+use lib.ListN.{length, length-append}
 use Rattle.xdr.specs.Encode.{be, u32, u64, array, opaque, pad_bytes, concat_map}
 use Rattle.std.specs.Int.{bytes_high_first}
 use Rattle.xdr.proofs.EncodeLaws.{length-u32, length-u64, length-array}
-use Rattle.rules.specs.Lists.{tabulate}
-use Rattle.rules.proofs.AttributeLaws.{words-most}
-use Rattle.rules.specs.Attributes.{Attr, SUPPORTED_ATTRS, SIZE, SPACE_USED, CLONE_BLKSIZE, SPACE_FREED, attr_number, supported, select, bitmap_word, bitmap_length, bitmap, FileAttrs, attr_value}
-
-pub cond-most : (t : Bool) (n : ℕ) → cond t n 0 ≤ n
-cond-most true n = omega arith
-cond-most false n = omega arith
+use Rattle.rules.specs.Attributes.{Attr, SUPPORTED_ATTRS, SIZE, SPACE_USED, CLONE_BLKSIZE, SPACE_FREED, supported, select, bitmap, FileAttrs, attr_value}
 
 cond-fours : (t : Bool) (n : ℕ) → n % 4 ≡ 0 → cond t n 0 % 4 ≡ 0
 cond-fours true n h = h
@@ -31,20 +24,6 @@ cond-length false l h = refl
 
 -- the first of the attributes, and the others
 module _ (p : Attr → Bool) (x : Attr) (xs : List Attr) where
-  length-first : bitmap_length (select p (x ∷ xs)) ≡ max (cond (p x) (attr_number x / 32 + 1) 0) (bitmap_length (select p xs))
-  length-first = go (p x)
-    where
-      go : (t : Bool) → bitmap_length (cond t (x ∷ select p xs) (select p xs)) ≡ max (cond t (attr_number x / 32 + 1) 0) (bitmap_length (select p xs))
-      go true = refl
-      go false = omega arith
-
-  word_first : (i : ℕ) → bitmap_word (select p (x ∷ xs)) i ≡ cond (p x) (cond (eqb (attr_number x / 32) i) (2 ^ (attr_number x % 32)) 0) 0 + bitmap_word (select p xs) i
-  word_first i = go (p x)
-    where
-      go : (t : Bool) → bitmap_word (cond t (x ∷ select p xs) (select p xs)) i ≡ cond t (cond (eqb (attr_number x / 32) i) (2 ^ (attr_number x % 32)) 0) 0 + bitmap_word (select p xs) i
-      go true = refl
-      go false = omega arith
-
   values_first : (f : Attr → List ℕ) → concat_map f (select p (x ∷ xs)) ≡ cond (p x) (f x) [] ++ concat_map f (select p xs)
   values_first f = go (p x)
     where
@@ -55,55 +34,6 @@ module _ (p : Attr → Bool) (x : Attr) (xs : List Attr) where
 -- ---- all that we have
 
 module _ (p : Attr → Bool) where
-  pub length_all : bitmap_length (select p supported)
-      ≡ max (cond (p SUPPORTED_ATTRS) 1 0) (max (cond (p SIZE) 1 0) (max (cond (p SPACE_USED) 2 0) (max (cond (p CLONE_BLKSIZE) 3 0) (max (cond (p SPACE_FREED) 3 0) 0))))
-  length_all = rw (
-    length-first p SUPPORTED_ATTRS (SIZE ∷ SPACE_USED ∷ CLONE_BLKSIZE ∷ SPACE_FREED ∷ []),
-    length-first p SIZE (SPACE_USED ∷ CLONE_BLKSIZE ∷ SPACE_FREED ∷ []),
-    length-first p SPACE_USED (CLONE_BLKSIZE ∷ SPACE_FREED ∷ []),
-    length-first p CLONE_BLKSIZE (SPACE_FREED ∷ []),
-    length-first p SPACE_FREED [],
-  )
-
-  word-all : (i : ℕ) → bitmap_word (select p supported) i
-      ≡ cond (p SUPPORTED_ATTRS) (cond (eqb 0 i) 1 0) 0 + (cond (p SIZE) (cond (eqb 0 i) 16 0) 0 + (cond (p SPACE_USED) (cond (eqb 1 i) 8192 0) 0
-      + (cond (p CLONE_BLKSIZE) (cond (eqb 2 i) 8192 0) 0 + (cond (p SPACE_FREED) (cond (eqb 2 i) 16384 0) 0 + 0))))
-  word-all i = rw (
-    word_first p SUPPORTED_ATTRS (SIZE ∷ SPACE_USED ∷ CLONE_BLKSIZE ∷ SPACE_FREED ∷ []) i,
-    word_first p SIZE (SPACE_USED ∷ CLONE_BLKSIZE ∷ SPACE_FREED ∷ []) i,
-    word_first p SPACE_USED (CLONE_BLKSIZE ∷ SPACE_FREED ∷ []) i,
-    word_first p CLONE_BLKSIZE (SPACE_FREED ∷ []) i,
-    word_first p SPACE_FREED [] i,
-  )
-
-  none : (x : Attr) → cond (p x) 0 0 ≤ 0
-  none x = cond-most (p x) 0
-
-  first_word : bitmap_word (select p supported) 0 ≡ cond (p SUPPORTED_ATTRS) 1 0 + cond (p SIZE) 16 0
-  first_word = omega (arith, word-all 0, none SPACE_USED, none CLONE_BLKSIZE, none SPACE_FREED)
-
-  second_word : bitmap_word (select p supported) 1 ≡ cond (p SPACE_USED) 8192 0
-  second_word = omega (arith, word-all 1, none SUPPORTED_ATTRS, none SIZE, none CLONE_BLKSIZE, none SPACE_FREED)
-
-  third-word : bitmap_word (select p supported) 2 ≡ cond (p CLONE_BLKSIZE) 8192 0 + cond (p SPACE_FREED) 16384 0
-  third-word = omega (arith, word-all 2, none SUPPORTED_ATTRS, none SIZE, none SPACE_USED)
-
-  -- the bitmap is the first words of the three
-  pub bitmap-is : take (bitmap_length (select p supported))
-      ((cond (p SUPPORTED_ATTRS) 1 0 + cond (p SIZE) 16 0) ∷ cond (p SPACE_USED) 8192 0 ∷ (cond (p CLONE_BLKSIZE) 8192 0 + cond (p SPACE_FREED) 16384 0) ∷ [])
-      ≡ bitmap (select p supported)
-  bitmap-is = rw (← first_word, ← second_word, ← third-word) (go (bitmap_length (select p supported)) (words-most p))
-    where
-      f : ℕ → ℕ
-      f = bitmap_word (select p supported)
-
-      go : (n : ℕ) → n ≤ 3 → take n (f 0 ∷ f 1 ∷ f 2 ∷ []) ≡ tabulate f 0 n
-      go zero h = refl
-      go (suc zero) h = refl
-      go (suc (suc zero)) h = refl
-      go (suc (suc (suc zero))) h = refl
-      go (suc (suc (suc (suc n)))) h = absurd (omega arith)
-
   pub values_all : (f : Attr → List ℕ) → concat_map f (select p supported)
       ≡ cond (p SUPPORTED_ATTRS) (f SUPPORTED_ATTRS) [] ++ (cond (p SIZE) (f SIZE) [] ++ (cond (p SPACE_USED) (f SPACE_USED) []
       ++ (cond (p CLONE_BLKSIZE) (f CLONE_BLKSIZE) [] ++ cond (p SPACE_FREED) (f SPACE_FREED) [])))

@@ -102,7 +102,6 @@ fn bit_if(asked: bool, bit: u32) -> u32
 }
 
 // How many words it has: the last is not zero.
-#[tactic(auto, using(crate::proofs::AttrLaws::length_all))]
 fn bitmap_words(a: Asked) -> usize
     ensures { result ≡ bitmap_length (select (asks a) supported) }
 {
@@ -133,7 +132,7 @@ fn put_bitmap(w: &mut Writer<'_>, a: Asked)
 // ---- the values, each where it is asked for
 
 // The bitmap of all that we have.
-#[tactic(auto, using(xdr::proofs::WritingLaws::wrote_none))]
+#[tactic(auto, using(xdr::proofs::WritingLaws::wrote_none, crate::proofs::AttrLaws::supported_size))]
 fn put_supported_if(w: &mut Writer<'_>, asked: bool)
     requires { HasRoom 16 w.old }
     ensures value { Wrote (cond asked (array (bitmap supported)) []) w.old w.new }

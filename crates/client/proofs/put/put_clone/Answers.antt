@@ -1,9 +1,8 @@
-use native.Mathlib.Omega.{arith}
-use Rattle.wire.proofs.FieldLaws.{written-more}
+use Rattle.xdr.proofs.WritingLaws.{wrote_then}
 use Rattle.client.proofs.put.put_clone.Goals as goal
 
-pub returns : goal.returns
-returns c =
-    written-more (omega (arith, c.requires.1.1)) c.put_stateid-target.ensures
-    (λ h. written-more h c.put_stateid-from.ensures
-    (λ h. written-more h c.put_u64-to.ensures (λ h. written-more h c.put_u64-count.ensures (λ h. c.put_u64.ensures))))
+pub returns-clause-bytes : goal.returns-clause-bytes
+returns-clause-bytes c =
+    let source = rw c.part.ensures.bytes_are at c.bytes.ensures in
+    let target = rw c.part-2.ensures.bytes_are at c.bytes-2.ensures in
+    wrote_then source (wrote_then target (wrote_then c.u64.ensures (wrote_then c.u64-2.ensures c.u64-3.ensures)))

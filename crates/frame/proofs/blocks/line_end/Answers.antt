@@ -1,5 +1,8 @@
-use Rattle.frame.proofs.BlockLaws.{plain_end}
+use Rattle.frame.proofs.BlockLaws.{found, missing}
 use Rattle.frame.proofs.blocks.line_end.Goals as goal
 
-pub returns : goal.returns
-returns c = record { value = plain_end _ c.plain_blocks-at.ensures c.find.ensures.value; upper_bound = c.find.ensures.upper_bound }
+pub returns-in-Some : goal.returns-in-Some
+returns-in-Some c = found c.plain_blocks-at.ensures c.in-Some.ensures
+
+pub returns-in-None : goal.returns-in-None
+returns-in-None c = missing c.plain_blocks-at.ensures c.in-None.ensures

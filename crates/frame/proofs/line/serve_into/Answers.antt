@@ -24,4 +24,4 @@ put_hex-requires c =
 
 pub returns : goal.returns
 returns c =
-    request-served _ _ c.serve_frame-r.ensures c.if-r-ne0.false c.put_hex.ensures
+    request-served _ _ c.serve_frame-r.ensures c.if-r-ne0.false c.put_hex.ensures.printed

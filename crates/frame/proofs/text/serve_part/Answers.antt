@@ -1,18 +1,9 @@
-use mathlib.Core.Path.{sym}
-use native.Mathlib.Omega.{arith}
-use lib.Seq.{length-take-le}
+use Rattle.std.proofs.Common.{arith}
 use Rattle.frame.proofs.ReadLaws.{part_goes_on, part-ends}
 use Rattle.frame.proofs.text.serve_part.Goals as goal
 
-pub returns-then-text-end : goal.returns-then-text-end
-returns-then-text-end c =
-    let e = c.requires.1.1.1 in
-    record { read_promise = part_goes_on _ c.args.p _ e.0 e.1 c.args.line.now c.args.out.now _ c.keep-kept.ensures (omega arith) c.if-text-end.true (omega arith); kept_bound = c.keep-kept.ensures.few }
+pub returns-then-not-part-clause-read_promise : goal.returns-then-not-part-clause-read_promise
+returns-then-not-part-clause-read_promise c = part_goes_on _ _ c.args.p c.args.line.now c.args.out.now _ c.keep-kept.ensures (omega arith) c.if-not-part.true (omega arith)
 
-pub slice_bounds-answer-end-2 : goal.slice_bounds-answer-end-2
-slice_bounds-answer-end-2 c = sym (length-take-le _ _ (omega arith))
-
-pub returns : goal.returns
-returns c =
-    let e = c.requires.1.1.1 in
-    record { read_promise = part-ends _ c.args.p _ e.0 e.1 c.args.line.now c.args.out.now _ c.keep-kept.ensures (omega arith) c.if-text-end.false c.answer.ensures; kept_bound = omega arith }
+pub returns-clause-read_promise : goal.returns-clause-read_promise
+returns-clause-read_promise c = part-ends _ _ c.args.p c.args.line.now c.args.out.now _ c.keep-kept.ensures (omega arith) c.if-not-part.false c.answer.ensures

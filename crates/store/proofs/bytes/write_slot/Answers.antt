@@ -1,7 +1,6 @@
-use mathlib.Core.Path.{◌∙◌}
-use Rattle.store.proofs.StoreLaws.{write-share}
+use Rattle.store.proofs.StoreLaws.{write-stored}
 use Rattle.store.proofs.bytes.write_slot.Goals as goal
 
 pub returns : goal.returns
 returns c =
-    c.store_part.ensures ∙ write-share _ _ _ _ _ _ _ _ _ c.requires c.max-a.ensures c.min-b.ensures
+    write-stored _ _ _ _ _ _ _ _ _ _ c.requires c.max-a.ensures c.min-b.ensures c.fresh_block.ensures.start _ c.fresh_block.ensures.bytes _ c.copy_from_slice.ensures.after

@@ -1,7 +1,6 @@
-use mathlib.Core.Path.{◌∙◌}
-use Rattle.store.proofs.StoreLaws.{zero-share}
+use Rattle.store.proofs.StoreLaws.{zeros-stored}
 use Rattle.store.proofs.bytes.zero_slot.Goals as goal
 
 pub returns : goal.returns
 returns c =
-    c.zero_range.ensures ∙ zero-share _ _ _ _ _ _ _ _ _ c.requires c.max-a.ensures c.min-b.ensures
+    zeros-stored _ _ _ _ _ _ _ _ _ _ c.requires c.max-a.ensures c.min-b.ensures c.fresh_block.ensures.start _ c.fresh_block.ensures.bytes _ (c.fill.ensures.after (λ y e. e))

@@ -1,14 +1,10 @@
-use mathlib.Core.Path.{◌∙◌}
-use native.Mathlib.Omega.{arith}
-use Rattle.rules.proofs.GeometryLaws.{good, file-most}
-use Rattle.store.proofs.CopyBytes.{copy-share}
+use Rattle.store.proofs.CopyBytes.{share_copyable, share_copied}
 use Rattle.store.proofs.copy_bytes.copy_slot.Goals as goal
 
-pub overflow_add-from : goal.overflow_add-from
-overflow_add-from c =
-    omega (arith, c.requires.readable.fits, c.requires.touched.ordered, c.requires.touched.before, file-most _ (good _ c.requires.readable.geometry))
+pub copy_bytes-requires : goal.copy_bytes-requires
+copy_bytes-requires c =
+    share_copyable _ _ _ _ _ _ _ _ _ _ _ _ _ c.requires c.max-a.ensures c.min-b.ensures c.fresh_block.ensures.start _ c.fresh_block.ensures.bytes
 
 pub returns : goal.returns
 returns c =
-    λ sizes. c.store_part.ensures
-    ∙ copy-share _ _ _ c.args.page.now _ _ _ _ _ _ _ _ _ c.requires c.max-a.ensures c.min.ensures _ c.read_bytes.auto.out sizes (c.read_bytes.ensures sizes)
+    share_copied _ _ _ _ _ _ _ _ _ _ _ _ _ c.requires c.max-a.ensures c.min-b.ensures c.fresh_block.ensures.start _ c.fresh_block.ensures.bytes c.copy_bytes.ensures

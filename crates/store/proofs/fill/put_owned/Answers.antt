@@ -2,30 +2,30 @@ use native.Mathlib.Omega.{arith}
 use Rattle.store.proofs.FillLaws.{slot_index, write-asks, write_fills, copy-asks, copy_fills, none-owns, cut-asks, cut_fills}
 use Rattle.store.proofs.fill.put_owned.Goals as goal
 
-pub overflow_mul-new : goal.overflow_mul-new
-overflow_mul-new c = omega (arith, slot_index c.requires.0.1.1.slot)
+pub overflow_mul-slot : goal.overflow_mul-slot
+overflow_mul-slot c = omega (arith, slot_index c.requires.1.1.slot)
 
-pub overflow_add-new : goal.overflow_add-new
-overflow_add-new c = omega (arith, slot_index c.requires.0.1.1.slot)
+pub overflow_add-slot : goal.overflow_add-slot
+overflow_add-slot c = omega (arith, slot_index c.requires.1.1.slot)
 
 pub offset_bounds-words-e : goal.offset_bounds-words-e
-offset_bounds-words-e c = omega (arith, slot_index c.requires.0.1.1.slot)
+offset_bounds-words-e c = omega (arith, slot_index c.requires.1.1.slot)
 
 pub bounds-words-e : goal.bounds-words-e
-bounds-words-e c = slot_index c.requires.0.1.1.slot
+bounds-words-e c = slot_index c.requires.1.1.slot
 
 pub write_slot-requires : goal.write_slot-requires
 write_slot-requires c =
-    write-asks c.requires.0.1.1.slot c.in-Write.is
+    write-asks c.requires.1.1.slot c.in-Write.is
 
 pub copy_slot-requires : goal.copy_slot-requires
 copy_slot-requires c =
-    let o = c.requires.0.1.1 in
-    copy-asks o.slot c.in-Copy.is o.kind c.requires.1
+    let o = c.requires.1.1 in
+    copy-asks o.slot c.in-Copy.is o.kind
 
 pub zero_slot-requires : goal.zero_slot-requires
 zero_slot-requires c =
-    let o = c.requires.0.1.1 in
+    let o = c.requires.1.1 in
     cut-asks o.slot c.in-Deallocate.is o.kind
 
 pub returns-in-Write : goal.returns-in-Write

@@ -5,11 +5,11 @@ use Rattle.store.proofs.FillLaws.{slot_of, left_fills, owns-slot, not_owned}
 use Rattle.store.proofs.fill.put_slot.Goals as goal
 
 pub kind_of-requires : goal.kind_of-requires
-kind_of-requires c = slot_of c.requires.0.1
+kind_of-requires c = slot_of c.requires.1
 
 pub put_owned-requires : goal.put_owned-requires
 put_owned-requires c =
-    ((c.requires.0.0, (_, owns-slot c.requires.0.1 c.kind_of.ensures (ap (λ k. is_owned (kind_from k)) c.in-Owns.is))), c.requires.1)
+    (c.requires.0, (_, owns-slot c.requires.1 c.kind_of.ensures (ap (λ k. is_owned (kind_from k)) c.in-Owns.is)))
 
 pub returns-in-Owns : goal.returns-in-Owns
 returns-in-Owns c =

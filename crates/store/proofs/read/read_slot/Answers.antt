@@ -1,4 +1,6 @@
-use mathlib.Core.Path.{◌∙◌, refl}
+use mathlib.Core.Path.{◌∙◌}
+use native.Mathlib.Nat.{add-sub_cancel_left}
+use lib.ListN.{length}
 use Rattle.store.proofs.PlaceLaws.{read-hole, read-block}
 use Rattle.store.proofs.read.read_slot.Goals as goal
 
@@ -8,4 +10,5 @@ returns-then-k-eq0 c =
 
 pub returns : goal.returns
 returns c =
-    λ sizes. c.copy_from_slice.ensures.after ∙ read-block _ _ _ _ _ _ c.requires.0 c.requires.1 c.word_at.ensures c.if-k-eq0.false _ refl
+    λ sizes. c.copy_from_slice.ensures.after
+    ∙ rw (add-sub_cancel_left _ (length c.args.out.now)) (read-block _ _ _ _ _ _ c.requires.0 c.requires.1 c.word_at.ensures c.if-k-eq0.false)

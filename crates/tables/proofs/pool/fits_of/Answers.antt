@@ -1,3 +1,4 @@
+use Rattle.std.proofs.Common.{rules}
 use mathlib.Core.Path.{sym, ◌∙◌}
 use native.Mathlib.Omega.{arith}
 use lib.Dec.{ltb}
@@ -11,20 +12,14 @@ pub returns-then-not-reserved : goal.returns-then-not-reserved
 returns-then-not-reserved c =
     fits-unreserved c.requires.counted (unreserved c.args.words.now (sym c.requires.slots.reserved_is ∙ c.if-not-reserved.true))
 
-pub count_of_sort-requires : goal.count_of_sort-requires
-count_of_sort-requires c = c.requires.counted.few
-
 pub overflow_add-held : goal.overflow_add-held
 overflow_add-held c =
     let ws = c.args.words.now in
-    omega (arith, c.requires.counted.few, c.requires.slots.held_is, c.count_of_sort.ensures, count_most (ltb 1) ws, count_most is_reserved ws)
+    omega (arith, c.requires.counted.few, c.requires.slots.held_is, c.count_where.ensures is_reserved (λ n b h. search rules), count_most (ltb 1) ws, count_most is_reserved ws)
 
-pub returns-then-held-count_of_sort : goal.returns-then-held-count_of_sort
-returns-then-held-count_of_sort c =
-    fits_bound c.requires.counted (omega (arith, c.requires.slots.held_is, c.count_of_sort.ensures, c.if-held-count_of_sort.true))
-
-pub owed_of-requires : goal.owed_of-requires
-owed_of-requires c = record { room = c.requires; used_is = c.used_blocks-used.ensures }
+pub returns-then-held-count_where : goal.returns-then-held-count_where
+returns-then-held-count_where c =
+    fits_bound c.requires.counted (omega (arith, c.requires.slots.held_is, c.count_where.ensures is_reserved (λ n b h. search rules), c.if-held-count_where.true))
 
 pub overflow_add-result : goal.overflow_add-result
 overflow_add-result c =
@@ -33,5 +28,4 @@ overflow_add-result c =
     omega (arith, k.few, k.most, c.used_blocks-used.ensures, c.owed_of.ensures, count_most (ltb 0) cs, count_most (owes_by cs) c.args.words.now)
 
 pub returns : goal.returns
-returns c =
-    fits-counted c.requires.counted _ _ c.used_blocks-used.ensures c.owed_of.ensures
+returns c = fits-counted c.requires.counted _ _ c.used_blocks-used.ensures c.owed_of.ensures

@@ -1,12 +1,7 @@
-use Prim.Native.Nat.{◌+◌, ◌-◌, ◌≤◌}
-use mathlib.Core.Path.{◌≡◌}
-use lib.ListN.{length, drop}
+use Rattle.std.proofs.Common.{◌≡◌, ◌+◌, ◌≤◌, drop}
 use Rattle.rules.specs.Lists.{count}
 use Rattle.tables.specs.Tally.{owes_by}
 use Rattle.tables.proofs.pool.owed_each.Given as goal
 
-abbrev pub invariant-loop-i : goal.invariant-loop-i
-invariant-loop-i l = (l.i ≤ length l.words) × (l.n + count (owes_by l.counts) (drop l.i l.words) ≡ count (owes_by l.counts) l.words)
-
-abbrev pub decreases-loop-i : goal.decreases-loop-i
-decreases-loop-i l = length l.words - l.i
+abbrev pub invariant-loop-word : goal.invariant-loop-word
+invariant-loop-word l = (l.sum + count (owes_by l.counts) (drop l.word-index l.words) ≡ count (owes_by l.counts) l.words) × (l.sum ≤ l.word-index)

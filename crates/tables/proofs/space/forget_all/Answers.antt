@@ -1,22 +1,18 @@
+use Rattle.std.proofs.Common.{rules, ◌≡◌}
 use native.Mathlib.Omega.{arith}
-use Rattle.tables.proofs.SpaceLaws.{forgetting_none, forgetting_few, forget_asks, forgetting_more, forgetting_all}
+use Rattle.rules.specs.Lists.{bit}
+use Rattle.tables.proofs.SpaceLaws.{forgetting_few, forgetting_more, forgetting_all}
 use Rattle.tables.proofs.space.forget_all.Goals as goal
 
-pub loop-i-init : goal.loop-i-init
-loop-i-init c = forgetting_none _ _
+pub overflow_add-alone : goal.overflow_add-alone
+overflow_add-alone c =
+    let e : c.from-alone.result ≡ bit c.forget_last.result = search rules in
+    omega (arith, forgetting_few c.requires (forgetting_more c.requires c.loop-word.invariant c.loop-word-test.true c.forget_last.ensures e))
 
-pub forget_last-n-requires : goal.forget_last-n-requires
-forget_last-n-requires c =
-    forget_asks c.requires c.loop-i.invariant c.loop-i-test.true
-
-pub overflow_add-n : goal.overflow_add-n
-overflow_add-n c =
-    omega (arith, forgetting_few c.requires (forgetting_more c.requires c.loop-i.invariant c.loop-i-test.true c.forget_last-n.ensures))
-
-pub loop-i-preserved : goal.loop-i-preserved
-loop-i-preserved c =
-    forgetting_more c.requires c.loop-i.invariant c.loop-i-test.true c.forget_last-n.ensures
+pub loop-word-preserved : goal.loop-word-preserved
+loop-word-preserved c =
+    let e : c.from-alone.result ≡ bit c.forget_last.result = search rules in
+    forgetting_more c.requires c.loop-word.invariant c.loop-word-test.true c.forget_last.ensures e
 
 pub returns : goal.returns
-returns c =
-    forgetting_all c.requires c.loop-i.invariant c.loop-i-test.false
+returns c = forgetting_all c.requires c.loop-word.invariant c.loop-word-test.false

@@ -1,3 +1,4 @@
+use Rattle.std.proofs.Common.{rules, ltb}
 use native.Mathlib.Omega.{arith}
 use Rattle.rules.proofs.CountLaws.{count_most}
 use Rattle.tables.proofs.SpaceLaws.{note_asks, alone-few, slots_are}
@@ -20,4 +21,4 @@ overflow_add-result c =
 
 pub returns : goal.returns
 returns c =
-    slots_are c.requires c.forget_all-alone.ensures c.note_all.ensures c.count_of_sort-used.ensures c.owed_slots-owed.ensures
+    slots_are c.requires c.forget_all-alone.ensures c.note_all.ensures (c.count_where-used.ensures (ltb 0) (λ n b h. search rules)) c.owed_slots-owed.ensures

@@ -1,5 +1,5 @@
 use Rattle.tables.proofs.TallyLaws.{noted-none}
 use Rattle.tables.proofs.tally.note.Goals as goal
 
-pub returns-then-w-eq0 : goal.returns-then-w-eq0
-returns-then-w-eq0 c = noted-none _ _ c.if-w-eq0.true
+pub returns-else-word-ne0 : goal.returns-else-word-ne0
+returns-else-word-ne0 c = noted-none _ _ c.if-word-ne0.false

@@ -9,5 +9,5 @@ pub note_groups-requires : goal.note_groups-requires
 note_groups-requires c =
     record { fits = c.requires.0; known = all_held c.args.words.now (sym c.requires.1 ∙ c.if-held-words.true) }
 
-pub note_groups-requires-2 : goal.note_groups-requires-2
-note_groups-requires-2 c = record { fits = c.requires.0; known = tt }
+pub note_groups-requires-else-held-words : goal.note_groups-requires-else-held-words
+note_groups-requires-else-held-words c = record { fits = c.requires.0; known = tt }

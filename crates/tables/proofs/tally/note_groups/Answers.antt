@@ -1,9 +1,12 @@
 use native.Mathlib.Omega.{arith}
-use Rattle.tables.proofs.TallyLaws.{noting_more, noting_all}
+use Rattle.tables.proofs.TallyLaws.{noting_none, noting_more, noting_all}
 use Rattle.tables.proofs.tally.note_groups.Goals as goal
 
+pub loop-i-init : goal.loop-i-init
+loop-i-init g c = noting_none _ _
+
 pub note_from-i-requires : goal.note_from-i-requires
-note_from-i-requires c =
+note_from-i-requires g c =
     let v = c.loop-i.invariant in
     record {
       known = c.requires.known;
@@ -12,14 +15,8 @@ note_from-i-requires c =
       some = c.loop-i-test.true;
     }
 
-pub overflow_add-i : goal.overflow_add-i
-overflow_add-i c = omega (arith, c.note_from-i.ensures.inside)
-
-pub loop-i-smaller : goal.loop-i-smaller
-loop-i-smaller c = omega (arith, c.note_from-i.ensures.some, c.note_from-i.ensures.inside)
-
 pub loop-i-preserved : goal.loop-i-preserved
-loop-i-preserved c = noting_more c.loop-i.invariant c.note_from-i.ensures
+loop-i-preserved g c = noting_more c.loop-i.invariant c.note_from-i.ensures
 
 pub returns : goal.returns
-returns c = noting_all c.loop-i.invariant c.loop-i-test.false
+returns g c = noting_all c.loop-i.invariant c.loop-i-test.false

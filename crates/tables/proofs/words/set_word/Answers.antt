@@ -11,4 +11,4 @@ note-requires c =
 
 pub returns : goal.returns
 returns c =
-    rw (c.note.ensures, c.forget.ensures) (stored _ _ c.requires.0 c.args.i c.requires.1.0 c.args.w c.requires.1.1)
+    rw (c.note.ensures, c.forget.ensures) (stored _ _ c.requires.0 c.args.i c.requires.1.0 c.args.word c.requires.1.1)

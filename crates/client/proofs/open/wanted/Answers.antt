@@ -1,8 +1,0 @@
-use borrow.Author.Tests.{eq-eqb, ne_eqb}
-use Rattle.client.proofs.open.wanted.Goals as goal
-
-pub returns-then-left-eq1 : goal.returns-then-left-eq1
-returns-then-left-eq1 c = rw (eq-eqb _ _ c.if-left-eq1.true)
-
-pub returns : goal.returns
-returns c = rw (ne_eqb _ _ c.if-left-eq1.false)

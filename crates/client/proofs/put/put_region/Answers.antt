@@ -1,7 +1,0 @@
-use native.Mathlib.Omega.{arith}
-use Rattle.wire.proofs.FieldLaws.{written-more}
-use Rattle.client.proofs.put.put_region.Goals as goal
-
-pub returns : goal.returns
-returns c =
-    written-more (omega (arith, c.requires.1)) c.put_stateid-offset.ensures (λ h. written-more h c.put_u64-length.ensures (λ h. c.put_u64.ensures))

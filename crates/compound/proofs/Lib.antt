@@ -3,3 +3,5 @@ pub mod SameLaws
 pub mod PieceLaws
 pub mod WholeLaws
 pub mod ReadLaws
+pub mod RunLaws
+pub mod LoopLaws

@@ -8,7 +8,7 @@ use Rattle.rules.specs.Attributes.{file_attrs}
 use Rattle.rules.specs.Operation.{Op, attrs_reply, read_reply, read_plus_reply, seek_reply, write_reply, copy_reply, NOFILEHANDLE, BAD_STATEID}
 use Rattle.rules.specs.Run.{State, no_file, read_stateid, zero_stateid, Does, sets, shows, edits, does, errors}
 use Rattle.tables.specs.Lent.{geometry_of}
-use Rattle.compound.specs.Whole.{whole}
+use Rattle.store.specs.Whole.{whole}
 use Rattle.store.specs.declared.edit.Act.{Act}
 use Rattle.store.specs.declared.edit.Edit.{Edit}
 use Rattle.store.specs.Edits.{edit_from, ActKnown}

@@ -6,10 +6,9 @@ ghost use Rattle.tables.specs.Lent.{geometry_of};
 
 use crate::does::Does;
 use crate::handles::{Handles, handle_file};
-use crate::lent::Store;
 use crate::reads::View;
 use crate::stateid::{read_stateid, zero_stateid};
-use store::{Act, Edit, Source};
+use store::{Act, Edit, Source, Store};
 use tables::Geometry;
 use wire::{CloneArgs, CopyArgs, Operation, ReadArgs, RegionArgs, Status, WriteArgs, asked_in};
 use xdr::Span;

@@ -5,7 +5,6 @@ mod check;
 mod does;
 mod edits;
 mod handles;
-mod lent;
 mod pieces;
 mod reads;
 mod run;

@@ -7,10 +7,10 @@ ghost use Rattle.tables.specs.Lent.{geometry_of};
 ghost use Rattle.rules.specs.Store.{bytes_from};
 ghost use Rattle.rules.specs.Operation.{piece_bytes};
 ghost use Rattle.store.specs.Readable.{piece_at};
-ghost use Rattle.compound.specs.Whole.{whole};
+ghost use Rattle.store.specs.Whole.{whole};
 ghost use Rattle.compound.specs.Pieces.{piece_size, pieces_size, pieces_to};
 
-use crate::lent::Store;
+use store::Store;
 use xdr::Writer;
 
 // The file's n bytes from `from` on into those of `out` from `at` on.

@@ -7,11 +7,11 @@ ghost use Rattle.rules.specs.Attributes.{file_attrs};
 ghost use Rattle.rules.specs.Read.{granted};
 ghost use Rattle.rules.specs.Operation.{attrs_reply, read_reply, read_plus_reply, seek_reply};
 ghost use Rattle.wire.specs.Attrs.{asks};
-ghost use Rattle.compound.specs.Whole.{whole, KeepsWhole};
+ghost use Rattle.store.specs.Whole.{whole, KeepsWhole};
 ghost use Rattle.compound.specs.Shown.{view_bytes};
 
-use crate::lent::Store;
 use crate::pieces::{put_file_bytes, put_pieces};
+use store::Store;
 use wire::{Asked, FileAttrs, Operation, ReadArgs};
 use xdr::Writer;
 

@@ -1,20 +1,20 @@
 // The operations of a compound, one after the other, up to the first that fails.
-ghost use Rattle.std.specs.Prelude.{◌≡◌, ℕ, ◌+◌, ◌≤◌, length};
+ghost use Rattle.std.specs.Prelude.{◌≡◌, ℕ, ◌+◌, ◌≤◌, length, None};
 ghost use Rattle.xdr.specs.Writing.{HasRoom};
 ghost use Rattle.rules.specs.Operation.{items, item_at};
 ghost use Rattle.rules.specs.Fault.{fault_at};
 ghost use Rattle.rules.specs.Run.{perform, reached};
 ghost use Rattle.rules.specs.Calls.{fresh};
 ghost use Rattle.wire.specs.Decoded.{meaning};
-ghost use Rattle.compound.specs.Whole.{whole, KeepsWhole};
+ghost use Rattle.store.specs.Whole.{whole, KeepsWhole};
 ghost use Rattle.compound.specs.Runner.{state_of, config_of, Named, Answered, event_of, Turned, RanAll};
 
 use crate::check::Context;
 use crate::does::Does;
 use crate::edits::put_edit;
 use crate::handles::Handles;
-use crate::lent::Store;
 use crate::reads::show;
+use store::{NoSpace, Store};
 use wire::{Operation, Status, item, put_result};
 use xdr::{Reader, Writer};
 
@@ -26,9 +26,9 @@ pub struct Stop {
 }
 
 impl From<Status> for Stop {
-    fn from(status: Status) -> Self
-        ensures { result ≡ record { status = status; place = None } }
-    {
+    ghost from_gives = { λ s e. (e.status ≡ s) × (e.place ≡ None) };
+
+    fn from(status: Status) -> Self {
         Stop {
             status,
             place: None,
@@ -80,15 +80,17 @@ fn perform(
             show(store, file, view, w);
             Ok(handles)
         }
-        Ok(Does::Edits(edit)) => {
-            if store.apply(&edit).is_err() {
+        Ok(Does::Edits(edit)) => match store.apply(&edit) {
+            Err(NoSpace) => {
                 put_result(w, number, Status::NoSpace);
-                return Err(Status::NoSpace);
+                Err(Status::NoSpace)
             }
-            put_result(w, number, Status::Ok);
-            put_edit(&edit, verifier, w);
-            Ok(handles)
-        }
+            Ok(()) => {
+                put_result(w, number, Status::Ok);
+                put_edit(&edit, verifier, w);
+                Ok(handles)
+            }
+        },
     }
 }
 

@@ -33,9 +33,9 @@ pub enum Refused {
 }
 
 impl From<Refusal> for Refused {
-    fn from(refusal: Refusal) -> Self
-        ensures { result ≡ Refused.Tables refusal }
-    {
+    ghost from_gives = { λ r e. e ≡ Refused.Tables r };
+
+    fn from(refusal: Refusal) -> Self {
         Refused::Tables(refusal)
     }
 }

@@ -1,6 +1,6 @@
 use Rattle.std.proofs.Common.{rules, ◌<◌, ◌≤◌, ◌*◌, arith}
 use Rattle.tables.specs.Lent.{geometry_of}
-use Rattle.compound.specs.Whole.{whole}
+use Rattle.store.specs.Whole.{whole}
 use Rattle.compound.proofs.PieceLaws.{left-all, left-none, left-room, left-on}
 use Rattle.compound.proofs.pieces.put_pieces.Goals as goal
 

@@ -1,6 +1,6 @@
 use Rattle.std.proofs.Common.{◌-◌, ◌≤◌}
 use Rattle.tables.specs.Lent.{geometry_of}
-use Rattle.compound.specs.Whole.{whole}
+use Rattle.store.specs.Whole.{whole}
 use Rattle.compound.proofs.PieceLaws.{Left}
 use Rattle.compound.proofs.pieces.put_pieces.Given as goal
 

@@ -3,7 +3,7 @@ use Rattle.xdr.proofs.WritingLaws.{wrote_then}
 use Rattle.rules.specs.Read.{read_count}
 use Rattle.rules.specs.Operation.{read_reply}
 use Rattle.tables.specs.Lent.{geometry_of}
-use Rattle.compound.specs.Whole.{whole}
+use Rattle.store.specs.Whole.{whole}
 use Rattle.compound.proofs.WholeLaws.{facts}
 use Rattle.compound.proofs.ReadLaws.{no_bytes}
 use Rattle.compound.proofs.reads.put_read.Goals as goal

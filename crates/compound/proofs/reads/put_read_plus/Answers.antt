@@ -6,7 +6,7 @@ use Rattle.rules.specs.Read.{granted}
 use Rattle.rules.specs.Operation.{read_plus_reply}
 use Rattle.rules.proofs.GeometryLaws.{file-most}
 use Rattle.tables.specs.Lent.{geometry_of}
-use Rattle.compound.specs.Whole.{whole}
+use Rattle.store.specs.Whole.{whole}
 use Rattle.compound.proofs.WholeLaws.{facts, limits}
 use Rattle.compound.proofs.ReadLaws.{pieces_room}
 use Rattle.compound.proofs.reads.put_read_plus.Goals as goal
@@ -34,3 +34,7 @@ returns c =
     (wrote_then c.boolean.ensures
     (wrote_over _ _ (omega (arith, c.requires.room, at_most.place, at_most.size, length-bool c.reaches.result)) (length-u32 _ ∙ omega (arith, length-u32 0))
     (wrote_then c.u32.ensures c.put_pieces-count.ensures.written) c.set_u32.ensures))
+
+pub put_pieces-count-requires-clause-fits : goal.put_pieces-count-requires-clause-fits
+put_pieces-count-requires-clause-fits c =
+    omega (arith, (facts c.args.store.now).fits c.args.file c.requires.file, c.min-end.ensures)

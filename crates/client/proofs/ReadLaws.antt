@@ -1,10 +1,9 @@
 -- Laws on pieces and bodies that are read.
-use Prim.Native.Nat.{ℕ, zero, suc, ◌-◌, ◌<◌}
+use Prim.Native.Nat.{ℕ, suc, ◌+◌, ◌-◌, ◌<◌}
 use mathlib.Core.Path.{◌≡◌, refl, sym, ap, ◌∙◌}
 use mathlib.Core.Bool.{Bool, true, false, cond}
 use mathlib.Core.List.{List, ◌∷◌}
-use native.Mathlib.Nat.{lt_irrefl}
-use native.Mathlib.Numerals.{sub-one}
+use native.Mathlib.Omega.{arith}
 use lib.Dec.{leb, eqb}
 use Rattle.xdr.specs.Decode.{Parsed, got, fault, and_then, Reader, number, up_to, times}
 use Rattle.xdr.specs.Layout.{Layout, uint, hyper, opaque_data, any_length, ◌then◌}
@@ -57,19 +56,19 @@ piece_by s at = go (up_to 1 s at) refl
 
 -- ---- where n values end
 
--- one more of them
-pub end_step : {A : Type 0} (r : Reader A) (n : ℕ) (s : List ℕ) (at : ℕ) → 0 < n
-    → end_of (times n r s at) ≡ and_then (end_of (r s at)) (λ u m. end_of (times (n - 1) r s m))
+-- of n values the i-th and those behind it
+pub end_step : {A : Type 0} (r : Reader A) (n i : ℕ) (s : List ℕ) (at : ℕ) → i < n
+    → end_of (times (n - i) r s at) ≡ and_then (end_of (r s at)) (λ u m. end_of (times (n - (i + 1)) r s m))
 unfolding times
-end_step r zero s at h = absurd (lt_irrefl 0 h)
-end_step {A} r (suc n) s at h = rw (sub-one (suc n)) (go (r s at))
+end_step {A} r n i s at h = let left : n - i ≡ suc (n - (i + 1)) = omega arith in rw left (go (r s at))
   where
     rest : (a : A) (t : Parsed (List A)) → end_of (and_then t (λ xs end. got (a ∷ xs) end)) ≡ end_of t
     rest a (got xs end) = refl
     rest a (fault p) = refl
 
-    go : (t : Parsed A) → end_of (and_then t (λ a m. and_then (times n r s m) (λ xs end. got (a ∷ xs) end))) ≡ and_then (end_of t) (λ u m. end_of (times n r s m))
-    go (got a m) = rest a (times n r s m)
+    go : (t : Parsed A) → end_of (and_then t (λ a m. and_then (times (n - (i + 1)) r s m) (λ xs end. got (a ∷ xs) end)))
+        ≡ and_then (end_of t) (λ u m. end_of (times (n - (i + 1)) r s m))
+    go (got a m) = rest a (times (n - (i + 1)) r s m)
     go (fault p) = refl
 
 -- pieces, from where they end

@@ -47,13 +47,6 @@ module _ (ns : List ℕ) where
   abbrev pub left : List Operation → ℕ → ℕ → Option (List Operation)
   left ops i n = behind (take i ops) (record_ops ns (10 * i) (n - i))
 
-  pub start_left : (ops : List Operation) (n : ℕ) → record_ops ns 0 n ≡ left ops 0 n
-  start_left ops n = let e : n - 0 ≡ n = omega arith in rw e (go (record_ops ns 0 n))
-    where
-      go : (u : Option (List Operation)) → u ≡ behind [] u
-      go None = refl
-      go (Some os) = refl
-
   module _ (ops : List Operation) (i n : ℕ) (h : i < n) where
     one_left : left ops i n ≡ behind (take i ops) (infront (record_op (record_at ns (10 * i))) (record_ops ns (10 * (i + 1)) (n - (i + 1))))
     one_left =
@@ -73,9 +66,6 @@ module _ (ns : List ℕ) where
         go : (u : Option (List Operation)) → behind (take i ops) (infront (Some o) u) ≡ behind (take (i + 1) (set ops i o)) u
         go None = refl
         go (Some os) = ap Some (sym (append_assoc (take i ops) (o ∷ []) os)) ∙ ap (λ l. Some (l ++ os)) front
-
-  pub left_end : (ops : List Operation) (i n : ℕ) → i ≡ n → left ops i n ≡ Some (take n ops)
-  left_end ops i n e = let none_left : n - i ≡ 0 = omega arith in rw none_left (ap Some (append-nil (take i ops) ∙ ap (λ (k : ℕ). take k ops) e))
 
 -- ---- what the numbers stand for
 
@@ -103,6 +93,3 @@ module _ (s tag ns buf : List ℕ) where
 
     pub wrong_record : record_ops ns 0 (length ns / 10) ≡ None → wrote tag (given_records s ns) buf ≡ not_written 11 buf
     wrong_record e = refuses s tag [] buf (given_records s ns) (λ os f. absurd (none≢some (sym (given_is ∙ ap all e) ∙ f)))
-
-    pub all_records : {os : List Operation} → record_ops ns 0 (length ns / 10) ≡ Some os → given_records s ns ≡ given s os
-    all_records e = given_is ∙ ap all e

@@ -32,27 +32,19 @@ use Rattle.client.specs.Given.{lent_in, stateid_ok, writable, args_bytes, op_siz
 pub both : (a b : Bool) → a && b ≡ true → (a ≡ true) × (b ≡ true)
 both a b h = (and_left a b h, and_right a b h)
 
-pub three : (a b c : Bool) → a && (b && c) ≡ true → (a ≡ true) × ((b ≡ true) × (c ≡ true))
+three : (a b c : Bool) → a && (b && c) ≡ true → (a ≡ true) × ((b ≡ true) × (c ≡ true))
 three a b c h = (and_left a (b && c) h, both b c (and_right a (b && c) h))
 
-pub four : (a b c d : Bool) → a && (b && (c && d)) ≡ true → (a ≡ true) × ((b ≡ true) × ((c ≡ true) × (d ≡ true)))
+four : (a b c d : Bool) → a && (b && (c && d)) ≡ true → (a ≡ true) × ((b ≡ true) × ((c ≡ true) × (d ≡ true)))
 four a b c d h = (and_left a (b && (c && d)) h, three b c d (and_right a (b && (c && d)) h))
 
 -- ---- spans
-
--- the span lies in the data, as the code tests it
-pub lent_is : (n start len : ℕ) → start ≤ n → leb len (n - start) ≡ leb (start + len) n
-lent_is n start len h = go (leb (start + len) n) refl
-  where
-    go : (t : Bool) → leb (start + len) n ≡ t → leb len (n - start) ≡ t
-    go true e = le-leb len (n - start) (omega (arith, leb-true (start + len) n e))
-    go false e = lt-leb len (n - start) (omega (arith, leb-false (start + len) n e))
 
 pub part_length : (s : List ℕ) (d : Span) → lent_in s d ≡ true → length (part_of s d) ≡ d.len
 unfolding part_of
 part_length s d h = length-take-le d.len (drop d.start s) (rw (length-drop d.start s) (omega (arith, leb-true (d.start + d.len) (length s) h)))
 
-pub stateid-length : (s : List ℕ) (d : Span) → stateid_ok s d ≡ true → length (part_of s d) ≡ 16
+stateid-length : (s : List ℕ) (d : Span) → stateid_ok s d ≡ true → length (part_of s d) ≡ 16
 stateid-length s d h =
     let t = both (eqb d.len 16) (lent_in s d) h in
     part_length s d t.1 ∙ eqb-true d.len 16 t.0
@@ -90,18 +82,18 @@ size_is s o {t} {n} {m} z e = go t z.when z.long
     go false w l = rw w
 
 -- without arguments: GETFH, RESTOREFH, SAVEFH
-pub bare_sized : (s : List ℕ) → Sized s Operation.GetFh true 0
+bare_sized : (s : List ℕ) → Sized s Operation.GetFh true 0
 bare_sized s = record { when = refl; long = λ t. refl }
 
 -- READ, READ_PLUS, SEEK
-pub read-sized : (s : List ℕ) (a : ReadArgs) → (a.offset < 2 ^ 64) × (a.count < 2 ^ 32) → Sized s (Operation.Read a) (stateid_ok s a.stateid) 28
+read-sized : (s : List ℕ) (a : ReadArgs) → (a.offset < 2 ^ 64) × (a.count < 2 ^ 32) → Sized s (Operation.Read a) (stateid_ok s a.stateid) 28
 read-sized s a h = record {
   when = stateid-fits s a.stateid _ (rw (lt-ltb a.offset (2 ^ 64) h.0, lt-ltb a.count (2 ^ 32) h.1));
   long = λ t. simp (length-append, length-u64, length-u32) (omega (arith, stateid-length s a.stateid t));
 }
 
 -- ALLOCATE, DEALLOCATE
-pub region-sized : (s : List ℕ) (a : RegionArgs) → (a.offset < 2 ^ 64) × (a.length < 2 ^ 64) → Sized s (Operation.Allocate a) (stateid_ok s a.stateid) 32
+region-sized : (s : List ℕ) (a : RegionArgs) → (a.offset < 2 ^ 64) × (a.length < 2 ^ 64) → Sized s (Operation.Allocate a) (stateid_ok s a.stateid) 32
 region-sized s a h = record {
   when = stateid-fits s a.stateid _ (rw (lt-ltb a.offset (2 ^ 64) h.0, lt-ltb a.length (2 ^ 64) h.1));
   long = λ t. simp (length-append, length-u64) (omega (arith, stateid-length s a.stateid t));
@@ -115,7 +107,7 @@ limit_fits limit n h = go (leb n limit) refl
     go true e = lt-ltb n (2 ^ 32) (omega (arith, leb-true n limit e))
     go false e = refl
 
-pub handle-sized : (s : List ℕ) (d : Span) → Sized s (Operation.PutFh d) (leb d.len 128 && lent_in s d) (opaque_size d.len)
+handle-sized : (s : List ℕ) (d : Span) → Sized s (Operation.PutFh d) (leb d.len 128 && lent_in s d) (opaque_size d.len)
 handle-sized s d = record {
   when = go (lent_in s d) refl;
   long = λ t. length-opaque (part_of s d) ∙ ap opaque_size (part_length s d (both (leb d.len 128) (lent_in s d) t).1);
@@ -136,7 +128,7 @@ stateids_fit s d e b h = go (lent_in s d) (lent_in s e) refl refl
     go true false p q = rw (and_false (eqb e.len 16), and_false (eqb d.len 16 && true))
     go false u p q = rw (and_false (eqb d.len 16))
 
-pub clone-sized : (s : List ℕ) (a : CloneArgs) → (a.from < 2 ^ 64) × ((a.to < 2 ^ 64) × (a.count < 2 ^ 64))
+clone-sized : (s : List ℕ) (a : CloneArgs) → (a.from < 2 ^ 64) × ((a.to < 2 ^ 64) × (a.count < 2 ^ 64))
     → Sized s (Operation.Clone a) (stateid_ok s a.source && stateid_ok s a.target) 56
 clone-sized s a h = record {
   when = stateids_fit s a.source a.target _ (rw (lt-ltb a.from (2 ^ 64) h.0, lt-ltb a.to (2 ^ 64) h.1.0, lt-ltb a.count (2 ^ 64) h.1.1));
@@ -151,7 +143,7 @@ copy-tests a b true true e = rw (and-true (a && b), and-true (a && b), and-true 
 copy-tests a b true false e = rw (and_false (a && b && true))
 copy-tests a b false d e = rw (and_false (a && b))
 
-pub copy-sized : (s : List ℕ) (a : CopyArgs) → (a.clone.from < 2 ^ 64) × ((a.clone.to < 2 ^ 64) × (a.clone.count < 2 ^ 64))
+copy-sized : (s : List ℕ) (a : CopyArgs) → (a.clone.from < 2 ^ 64) × ((a.clone.to < 2 ^ 64) × (a.clone.count < 2 ^ 64))
     → Sized s (Operation.Copy a) (leb a.consecutive 1 && (leb a.synchronous 1 && (stateid_ok s a.clone.source && stateid_ok s a.clone.target))) 68
 copy-sized s a h =
     let c = a.clone in
@@ -165,7 +157,7 @@ copy-sized s a h =
           ∙ rw (z.long (three (leb a.consecutive 1) (leb a.synchronous 1) ids t).1.1) (simp (length-append, length-bool, length-u32));
     }
 
-pub write-sized : (s : List ℕ) (a : WriteArgs) → a.offset < 2 ^ 64
+write-sized : (s : List ℕ) (a : WriteArgs) → a.offset < 2 ^ 64
     → Sized s (Operation.Write a) (leb a.stable 2 && (lent_in s a.data && (leb a.data.len any_length && stateid_ok s a.stateid))) (28 + opaque_size a.data.len)
 write-sized s a h = record {
   when = go (lent_in s i) (lent_in s d) refl refl;
@@ -249,7 +241,7 @@ bitmap-spelled s d b h m =
     let l = part_length s d h in
     rw l (spelled (d.len / 4) (part_of s d) (omega (arith, l)) (part_bytes s d b))
 
-pub attr_sized : (s : List ℕ) (d : Span) → Bytes s → Sized s (Operation.GetAttr d) (leb d.len 16 && (eqb (d.len % 4) 0 && lent_in s d)) (4 + d.len)
+attr_sized : (s : List ℕ) (d : Span) → Bytes s → Sized s (Operation.GetAttr d) (leb d.len 16 && (eqb (d.len % 4) 0 && lent_in s d)) (4 + d.len)
 attr_sized s d b = record {
   when = go (lent_in s d) (eqb (d.len % 4) 0) refl refl;
   long = λ t.

@@ -34,10 +34,8 @@ fn past_pieces(r: &mut Reader<'_>, n: u32) -> Option<()>
     ensures value { parsed itself result r.new.at ≡ end_of (times n piece_layout.read r.old.bytes.now r.old.at) }
     ensures bytes { r.new.bytes ≡ r.old.bytes }
 {
-    let mut left = n;
-    while 0 < left {
+    for _turn in 0..n {
         next_piece(r)?;
-        left -= 1;
     }
     Some(())
 }

@@ -40,7 +40,6 @@ fn read_head(r: &mut Reader<'_>) -> Option<Head>
 
 // Whether so many results follow to the end of the reply, with these numbers and these statuses: the last one's is the reply's, and those
 // before it are OK.
-
 #[tactic(auto, using(crate::proofs::OpenLaws::too_many, crate::proofs::OpenLaws::good_step, crate::proofs::OpenLaws::good_end))]
 fn results_good(r: &mut Reader<'_>, count: u32, status: u32, numbers: &[u32]) -> bool
     ensures { result ≡ results_good r.old.bytes.now r.old.at count status numbers.now }
@@ -61,10 +60,7 @@ fn results_good(r: &mut Reader<'_>, count: u32, status: u32, numbers: &[u32]) ->
     if r.at != r.bytes.len() {
         return false;
     }
-    if status != 0 {
-        return true;
-    }
-    count == numbers.len()
+    status != 0 || count == numbers.len()
 }
 
 // Opens the reply to a request with this tag and these operation numbers.

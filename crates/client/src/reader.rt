@@ -1,5 +1,5 @@
 // A reader kept together with the reply that it reads.
-ghost use Rattle.std.specs.Prelude.{◌≡◌};
+ghost use Rattle.std.specs.Prelude.{◌≡◌, None, Ok};
 ghost use Rattle.xdr.specs.Part.{PartPromise};
 ghost use Rattle.xdr.specs.Reading.{parsed};
 ghost use Rattle.rules.specs.Client.{step, piece_layout};
@@ -32,6 +32,7 @@ impl<'a> ReplyReader<'a> {
     // The result at its place, or nothing behind the last one. It then stands behind the result, or where the fault is.
     pub fn next(&mut self) -> Result<Option<OpResult>, Fault>
         ensures value { of_step self.old.reader.bytes.now result self.new.reader.at ≡ step self.old.reader.bytes.now self.old.reader.at }
+        ensures done { result ≡ Ok None → self.new.reader.at ≡ self.old.reader.at }
         ensures reply { self.new.reader.bytes ≡ self.old.reader.bytes }
     {
         step(&mut self.reader)

@@ -1,5 +1,5 @@
 // Results, one at a time.
-ghost use Rattle.std.specs.Prelude.{◌≡◌};
+ghost use Rattle.std.specs.Prelude.{◌≡◌, None, Ok};
 ghost use Rattle.xdr.specs.Reading.{parsed};
 ghost use Rattle.rules.specs.Client.{result as result_at, step};
 ghost use Rattle.client.specs.Read.{of_result, of_step};
@@ -32,6 +32,7 @@ pub fn read_result(r: &mut Reader<'_>) -> Option<OpResult>
 #[tactic(auto, unfolding(rules::specs::Client::step))]
 pub fn step(r: &mut Reader<'_>) -> Result<Option<OpResult>, Fault>
     ensures value { of_step r.old.bytes.now result r.new.at ≡ step r.old.bytes.now r.old.at }
+    ensures done { result ≡ Ok None → r.new.at ≡ r.old.at }
     ensures bytes { r.new.bytes ≡ r.old.bytes }
 {
     if r.bytes.len() <= r.at {

@@ -1,5 +1,5 @@
 // How long an operation is as written, its number included; nothing where it can't be written.
-ghost use Rattle.std.specs.Prelude.{◌≡◌, ◌≤◌, ◌&&◌, length, IfSome};
+ghost use Rattle.std.specs.Prelude.{◌≡◌, ◌+◌, ◌*◌, ◌^◌, ◌≤◌, length, IfSome};
 ghost use Rattle.wire.specs.declared.operation.Operation.{Operation};
 ghost use Rattle.client.specs.Given.{lent_in, stateid_ok, op_size, ops_size};
 
@@ -64,7 +64,7 @@ fn copy_size(lent: &[u8], a: CopyArgs) -> Option<usize>
 #[tactic(auto, using(crate::proofs::WriteLaws::op_sizes))]
 fn op_size(lent: &[u8], o: Operation) -> Option<usize>
     ensures value { result ≡ op_size lent.now o }
-    ensures bound { IfSome result (λ n. n ≤ 4294967334) }
+    ensures bound { IfSome result (λ n. n ≤ 2 ^ 32 + 38) }
 {
     match o {
         Operation::GetAttr(d) => bitmap_size(lent, d),
@@ -89,7 +89,7 @@ fn op_size(lent: &[u8], o: Operation) -> Option<usize>
 pub fn ops_size(lent: &[u8], ops: &[Operation]) -> Option<usize>
     requires { length ops.now ≤ 12 }
     ensures value { result ≡ ops_size lent.now ops.now }
-    ensures bound { IfSome result (λ n. n ≤ 51539608008) }
+    ensures bound { IfSome result (λ n. n ≤ 12 * (2 ^ 32 + 38)) }
 {
     let mut total = 0;
     for o in ops {

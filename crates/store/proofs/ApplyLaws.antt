@@ -1,12 +1,12 @@
 -- An edit applied: what its parts ask, and its ways out.
-use Prim.Native.Nat.{ℕ, ◌*◌, ◌≤◌, ◌<◌, max}
+use Prim.Native.Nat.{ℕ, ◌≤◌, ◌<◌, max}
 use mathlib.Core.Path.{◌≡◌, sym, ◌∙◌}
 use mathlib.Core.Bool.{Bool, true, false}
 use mathlib.Core.List.{List}
 use native.Mathlib.Omega.{arith}
 use lib.ListN.{length, set, take}
 use lib.Seq.{length-take-le}
-use Rattle.rules.specs.Store.{Geometry, good_geometry, Store, size_of, fits_pool}
+use Rattle.rules.specs.Store.{Geometry, Store, size_of, fits_pool}
 use Rattle.rules.specs.Edit.{slot_count, plan, edited, edit_bytes}
 use Rattle.rules.proofs.EditForms.{edited-none, edited-some}
 use Rattle.rules.proofs.GeometryLaws.{good, block-pos}
@@ -28,10 +28,6 @@ module _ {g : Geometry} {st : Store} {cs : List ℕ} {e : CodeEdit.Edit} (a : Ap
   file-inside = omega (arith, (sound-store a.known).files, a.known.file)
 
   module _ (some : e.off < e.end) where
-    -- what `slot_count` asks
-    pub region-known : (good_geometry g ≡ true) × ((e.off < e.end) × (e.end ≤ g.S * g.B))
-    region-known = (a.known.shaped.geometry, (some, a.fits some))
-
     -- the words to save: of 1,024 the code lends n, as many as e has slots
     module _ {n : ℕ} (is : n ≡ slot_count g e.off e.end) where
       pub saved-room : n ≤ 1024

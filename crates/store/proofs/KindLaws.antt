@@ -22,7 +22,7 @@ use Rattle.store.specs.declared.edit.Source.{Source}
 use Rattle.store.specs.declared.edit.Act as Code
 use Rattle.store.specs.declared.edit.Edit as CodeEdit
 use Rattle.store.specs.Edits.{edit_from, ActKnown, Applies}
-use Rattle.store.specs.Planner.{SourceIn, EditSlots, Plannable, SlotOf, SharesIn, CopyKindIs, SlotSeen, KindIs, index_of, NoBlock, SlotChanged}
+use Rattle.store.specs.Planner.{SourceIn, EditSlots, Plannable, SlotOf, SharesIn, SlotSeen, KindIs, index_of, NoBlock, SlotChanged}
 
 -- ---- where the slots lie
 
@@ -103,9 +103,6 @@ module _ {g : Geometry} {e : CodeEdit.Edit} {size : ℕ} {ws : List ℕ} {k w : 
   pub kind-write : {d : Bor (List ℕ)} → e.act ≡ Code.Act.Write d → KindIs g e size ws k w owns
   unfolding kind_of
   kind-write q = by-act _ q tt (λ st s. refl)
-
-  pub kind-copy : {s : Source} {c : Kind} → e.act ≡ Code.Act.Copy s → CopyKindIs g e s size ws k c → KindIs g e size ws k w c
-  kind-copy q h = by-act _ q h.inside (λ st s. h.is st s.size_is s.others)
 
   pub kind-clone : SlotOf g e k → {s : Source} → e.act ≡ Code.Act.Clone s
       → KindIs g e size ws k w (shares (s.file * g.S + s.off / g.B + (k - first_slot g e.off)))

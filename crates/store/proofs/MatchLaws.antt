@@ -16,7 +16,7 @@ use Rattle.rules.proofs.CopyLaws.{from_all, from_one}
 use Rattle.xdr.proofs.BoolLaws.{and_false}
 use Rattle.store.specs.declared.edit.Source.{Source}
 use Rattle.store.specs.declared.edit.Edit as CodeEdit
-use Rattle.store.specs.Readable.{Placed, hole_in}
+use Rattle.store.specs.Readable.{hole_in}
 use Rattle.store.specs.Planner.{Others, CopySlot, copy_from, MatchedIs, CopyKindIs}
 use Rattle.store.proofs.RangeLaws.{slot_most}
 
@@ -37,10 +37,6 @@ module _ {g : Geometry} {e : CodeEdit.Edit} {s : Source} {ws : List ℕ} {k : �
   -- numbers that the code computes
   pub copy-most : (s.off + (e.end - e.off) ≤ 4194304) × (k * g.B + g.B ≤ 4194304)
   copy-most = (omega (arith, h.source.fits, file-most g copy-good), slot_most g k h.slot.edit.geometry copy-below)
-
-  -- a place of the source
-  pub source-placed : (i : ℕ) → i < s.off + (e.end - e.off) → Placed g ws s.file (i + 1)
-  source-placed i l = record { geometry = h.slot.edit.geometry; slots = h.slots; file = h.source.file; fits = omega (arith, h.source.fits) }
 
   -- and in a store where the other files have these words
   hole-seen : (st : Store) → Others g e.file ws st.words → (i : ℕ) → i < s.off + (e.end - e.off) → is_hole_at g st s.file i ≡ hole_in g ws s.file i

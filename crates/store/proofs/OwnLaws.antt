@@ -1,22 +1,21 @@
 -- Laws on unshared blocks in place: one slot, and old words stored again.
-use Prim.Native.Nat.{ℕ, zero, suc, ◌+◌, ◌/◌, ◌%◌, ◌≤◌, ◌<◌, max}
+use Prim.Native.Nat.{ℕ, suc, ◌+◌, ◌/◌, ◌%◌, ◌≤◌, ◌<◌}
 use mathlib.Core.Path.{◌≡◌, refl, sym, ap, ◌∙◌}
 use mathlib.Core.Bool.{Bool, true, false}
-use mathlib.Core.List.{List, ◌∷◌, append_assoc, []}
+use mathlib.Core.List.{List, append_assoc}
 use native.Mathlib.Nat.{add-suc}
 use native.Mathlib.Numerals.{add-one}
 use native.Mathlib.Omega.{arith}
 use native.Mathlib.Decide.{dec_lt}
-use borrow.Author.Tests.{eq-eqb, ne_eqb, eqb-true, ltb-true}
+use borrow.Author.Tests.{ne_eqb, eqb-true, ltb-true}
 use lib.ListN.{length, get_or, set, take, drop, drop_of_length-le, length-set}
 use lib.Dec.{eqb}
 use lib.Seq.{set-get_or, get_or-set_same, drop-cons, sets, sets-eq}
 use Rattle.xdr.specs.Bytes.{splice}
-use Rattle.rules.specs.Lists.{bit, sum_to}
-use Rattle.rules.specs.Store.{word, holds, holders, block_bound, lowest_free, hole_or_shared}
+use Rattle.rules.specs.Lists.{bit}
+use Rattle.rules.specs.Store.{word, holds, holders, hole_or_shared}
 use Rattle.rules.specs.Edit.{owns, owned, become}
-use Rattle.rules.proofs.CountLaws.{count_set, sum_to_add, sum_to_point, sum_to_cut, sum_to_ge}
-use Rattle.rules.proofs.NeedLaws.{lowest_free-least}
+use Rattle.rules.proofs.CountLaws.{count_set}
 use Rattle.rules.proofs.PlanLaws.{one-holder}
 use Rattle.tables.specs.Tally.{takes_by, first_zero}
 use Rattle.tables.specs.Tables.{TableTrue, Stored}
@@ -25,35 +24,6 @@ use Rattle.store.specs.declared.edit.NoSpace.{NoSpace}
 use Rattle.store.specs.Planner.{SlotChanged}
 use Rattle.store.proofs.KindLaws.{changed-done}
 use Rattle.tables.proofs.PoolLaws.{first_below, first-from, takes_same, tallied_free, tallied_full}
-
--- ---- the lowest free block's number is at most the number of slots
-
--- a word holds one block at most
-one_block : (n w : ℕ) → w / 2 ≤ n → sum_to n (λ b. bit (holds b w)) ≤ 1
-one_block n w h = go (w / 2) refl
-  where
-    other : (b : ℕ) → (w / 2 ≡ suc b → ⊥) → bit (holds b w) ≡ 0
-    other b d = ap bit (ne_eqb (w / 2) (suc b) d)
-
-    go : (k : ℕ) → w / 2 ≡ k → sum_to n (λ b. bit (holds b w)) ≤ 1
-    go zero e = omega (arith, sum_to_cut 0 n (λ b. bit (holds b w)) (omega arith) (λ b l. other b (λ (q : w / 2 ≡ suc b). omega arith)))
-    go (suc o) e =
-        omega (
-          arith,
-          ap bit (eq-eqb (w / 2) (suc o) e),
-          sum_to_cut 0 n (λ b. 0) (omega arith) (λ b l. refl),
-          sum_to_point n o (λ b. bit (holds b w)) (λ b. 0) (omega arith) (λ b d. other b (λ (q : w / 2 ≡ suc b). d (omega arith))),
-        )
-
-holders-all : (n : ℕ) (ws : List ℕ) → block_bound ws ≤ n → sum_to n (λ b. holders b ws) ≤ length ws
-holders-all n [] h = omega (arith, sum_to_cut 0 n (λ b. 0) (omega arith) (λ b l. refl))
-holders-all n (w ∷ ws) h =
-    omega (arith, sum_to_add n (λ b. bit (holds b w)) (λ b. holders b ws), one_block n w (omega arith), holders-all n ws (omega arith))
-
-pub lowest_free≤slots : (ws : List ℕ) → lowest_free ws ≤ length ws
-lowest_free≤slots ws =
-    let n : ℕ = max (block_bound ws) (lowest_free ws) in
-    omega (arith, sum_to_ge (lowest_free ws) n (λ b. holders b ws) (omega arith) (lowest_free-least ws), holders-all n ws (omega arith))
 
 -- ---- one slot
 
@@ -66,10 +36,6 @@ still_held ws i x c inside h two = go (eqb (get_or ws i 0 / 2) (suc c)) refl
     go false e = omega (arith, count_set (holds c) ws i x inside, ap bit e)
 
 module _ (ws cs : List ℕ) (known : TableTrue ws cs) where
-  -- a free block of the table is low enough for a word
-  pub free-low : first_zero cs < length cs → first_zero cs ≤ 65536
-  free-low h = omega (arith, tallied_free ws cs known.table known.pool h, lowest_free≤slots ws, known.few)
-
   module _ (i : ℕ) where
     takes_is : takes_by cs (get_or ws i 0) ≡ hole_or_shared ws (get_or ws i 0)
     takes_is = takes_same ws cs known.table known.pool (get_or ws i 0) (known.pool i)

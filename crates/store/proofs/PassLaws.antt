@@ -156,17 +156,6 @@ pass-start {g} {e} {ws = ws} {which = which} k =
     }
 
 module _ {g : Geometry} {e : CodeEdit.Edit} {size : ℕ} {which : Pass} {old ws₀ cs₀ ws cs : List ℕ} {j from : ℕ} (l : Passing g e size which old ws₀ cs₀ ws cs j from) where
-  pub pass-end : slot_count g e.off e.end ≤ j → Passed g e size which old ws₀ true ws cs
-  pass-end h =
-      let none : slot_count g e.off e.end - j ≡ 0 = omega arith in
-      record {
-        counted = l.counted;
-        outside = l.outside;
-        words_are = λ t st s. rw none at (l.left st s);
-        stopped = λ t. absurd (true≢false t);
-        unfit = λ t st s. absurd (true≢false t);
-      }
-
   module _ (fit : first_slot g e.off + slot_count g e.off e.end ≤ g.S) (h : j < slot_count g e.off e.end) {kind : Kind}
       (is : KindIs g e size ws (first_slot g e.off + j) (get_or old j 0) kind)
       {next : Result ℕ NoSpace} {after cs' : List ℕ} (same : length cs' ≡ length cs)

@@ -1,10 +1,10 @@
 -- For the code that reads bytes: the index of a place's word, the bytes of a slot, and parts that are lent to be read into.
-use Prim.Native.Nat.{ℕ, ◌+◌, ◌*◌, ◌/◌, ◌%◌, ◌≤◌, ◌<◌, min, ◌-◌}
+use Prim.Native.Nat.{ℕ, ◌+◌, ◌*◌, ◌/◌, ◌%◌, ◌≤◌, ◌<◌, ◌-◌}
 use mathlib.Core.Path.{◌≡◌, sym, ap, ◌∙◌}
 use mathlib.Core.Bool.{true}
 use mathlib.Core.List.{List, ◌++◌, append_assoc}
 use mathlib.Core.Logic.{◌≢◌}
-use native.Mathlib.Nat.{div-add-mod', mod-lt, add_assoc}
+use native.Mathlib.Nat.{div-add-mod', add_assoc}
 use native.Mathlib.Numerals.{sub-one}
 use native.Mathlib.Omega.{arith}
 use borrow.Author.Tests.{eq-eqb, ne_eqb}
@@ -15,8 +15,7 @@ use Rattle.rules.specs.Lists.{tabulate}
 use Rattle.rules.specs.Store.{Geometry, Store, word_of, byte_at, bytes_from}
 use Rattle.rules.specs.Read.{is_hole_at}
 use Rattle.store.specs.Readable.{Placed, Readable, InSlot}
-use Rattle.rules.proofs.GeometryLaws.{Good, good, slots-all, block-pos}
-use Rattle.rules.proofs.SoundStore.{div_lt, in_file}
+use Rattle.rules.proofs.GeometryLaws.{good, block-pos}
 use Rattle.rules.proofs.SlotByteLaws.{length_tab, get_or_tab, in_memory}
 use Rattle.rules.proofs.ReadLaws.{tab_append, same-slot, laid-slot}
 
@@ -24,13 +23,6 @@ use Rattle.rules.proofs.ReadLaws.{tab_append, same-slot, laid-slot}
 
 pub placed-pos : {g : Geometry} {ws : List ℕ} {f end : ℕ} → Placed g ws f end → 0 < g.B
 placed-pos {g} h = block-pos (good g h.geometry)
-
--- the index of the word of place i
-pub placed_index : (g : Geometry) (ws : List ℕ) (f i : ℕ) → Placed g ws f (i + 1) → (f * g.S + i / g.B < length ws) × (length ws ≤ 65536)
-placed_index g ws f i h =
-    let k : Good g = good g h.geometry in
-    let l : i < g.S * g.B = omega (arith, h.fits) in
-    (omega (arith, in_file g f (i / g.B) h.file (div_lt (block-pos k) i g.S l), h.slots), omega (arith, slots-all g k, h.slots))
 
 pub readable-pos : {g : Geometry} {ws m : List ℕ} {f end : ℕ} → Readable g ws m f end → 0 < g.B
 readable-pos {g} h = block-pos (good g h.geometry)
@@ -90,14 +82,6 @@ module _ (g : Geometry) (st : Store) (f i n w : ℕ) (h : Readable g st.words st
 
 pub part_length : (at n : ℕ) (xs : List ℕ) → at + n ≤ length xs → length (P.mid_of at (at + n - at) xs) ≡ n
 part_length at n xs h = P.mid_len at (at + n) xs h ∙ omega arith
-
--- the share of a slot: r of the bytes xs, from `at` on
-pub share-ready : (g : Geometry) (ws m : List ℕ) (f off n : ℕ) → Readable g ws m f (off + n) → (xs : List ℕ) → length xs ≡ n → (at r : ℕ) → at < n
-    → r ≡ min (length xs - at) (g.B - (off + at) % g.B)
-    → Readable g ws m f (off + at + length (P.mid_of at (at + r - at) xs)) × InSlot g.B (off + at) (length (P.mid_of at (at + r - at) xs))
-share-ready g ws m f off n h xs e at r l d =
-    let rest = mod-lt (off + at) (readable-pos h) in
-    rw (part_length at r xs (omega arith)) (readable-to h _ (omega arith), record { some = omega (arith, rest); ends = omega (arith, div-add-mod' (off + at) g.B, rest) })
 
 -- a lent part that comes back with the next n values
 pub read-on : (v : ℕ → ℕ) (xs ys : List ℕ) (off at n : ℕ) → at + n ≤ length xs → take at xs ≡ tabulate v off at

@@ -77,10 +77,6 @@ module _ (g : Geometry) (m : List ℕ) (old new : ℕ) (h : Backed g (length m) 
         → P.put_mid r (r + g.B - r) m ys ≡ splice m (pred (new / 2) * g.B) (slot_bytes g m old)
     fresh-zero ys e z = rw (hole-bytes g m old e, ← s.start) (put_zeroed r g.B m ys (omega (arith, h.new_inside, s.end)) z)
 
-    pub fresh-copy : (q : ℕ) (m' : List ℕ) → Starts g old q → old / 2 ≢ 0 → m' ≡ splice m r (take g.B (drop q m))
-        → m' ≡ splice m (pred (new / 2) * g.B) (slot_bytes g m old)
-    fresh-copy q m' t d e = rw (block-bytes g m old d, ← s.start, ← t.start) e
-
     -- bytes put over a part of it
     pub part-stored : (lo : ℕ) (cs m' : List ℕ) → lo + length cs ≤ g.B → m' ≡ splice m (pred (new / 2) * g.B) (slot_bytes g m old)
         → splice m' (r + lo) cs ≡ splice m (pred (new / 2) * g.B) (splice (slot_bytes g m old) lo cs)

@@ -26,17 +26,17 @@ fn rest_holes(held: usize, words: &[u32]) -> bool
     held + count_where(words, |word| word <= 1) == words.len()
 }
 
-// None where a word names a block that is none of so many.
+// What one pass tells of slot words; None where one names a block that is none of so many.
 pub fn scan_words(words: &[u32], blocks: usize) -> Option<Counted>
     requires { (blocks ≤ 65536) × (length words.now ≤ 65536) }
     ensures formed { is_some result ≡ all_to (length words.now) (λ i. leb (get_or words.now i 0 / 2) blocks) }
     ensures counted { IfSome result (λ c. SlotCounts words.now c.held c.reserved) }
 {
-    let n = blocks as u32;
-    let mut sum = 0;
+    let blocks = blocks as u32;
+    let mut sum = 0u32;
     let mut reserved = false;
     for word in words {
-        sum += holds_one(*word, n);
+        sum += holds_one(*word, blocks);
         reserved |= *word % 2 == 1;
     }
     let held = sum as usize;

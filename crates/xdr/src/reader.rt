@@ -93,13 +93,11 @@ impl<'a> Reader<'a> {
         ensures value { (d : Span) → parsed (λ _. d) result self.new.at ≡ padded n d self.old.bytes.now self.old.at }
         ensures bytes { self.new.bytes ≡ self.old.bytes }
     {
-        let mut left = n;
-        while 0 < left {
+        for _ in 0..n {
             if self.at >= self.bytes.len() || self.bytes[self.at] != 0 {
                 return None;
             }
             self.at += 1;
-            left -= 1;
         }
         Some(())
     }

@@ -49,18 +49,6 @@ fn show_u64<W: Write>(to: &mut W, bytes: &[u8], at: usize) -> io::Result<()> {
     show_number(to, number, r.at)
 }
 
-fn show_boolean<W: Write>(to: &mut W, bytes: &[u8], at: usize) -> io::Result<()> {
-    let mut r = Reader { bytes, at };
-    let b = r.boolean();
-    show_number(to, b.map(u64::from), r.at)
-}
-
-fn show_fixed<W: Write>(to: &mut W, bytes: &[u8], at: usize, n: usize) -> io::Result<()> {
-    let mut r = Reader { bytes, at };
-    let part = r.fixed(n);
-    show_part(to, part, r)
-}
-
 fn show_opaque<W: Write>(to: &mut W, bytes: &[u8], at: usize, limit: u32) -> io::Result<()> {
     let mut r = Reader { bytes, at };
     let part = r.opaque(limit);
@@ -152,7 +140,9 @@ fn show_numbers<W: Write>(to: &mut W) -> io::Result<()> {
     show_u32(to, &out, 0)?;
     show_u64(to, &out, 4)?;
     for at in [12, 16, 0] {
-        show_boolean(to, &out, at)?;
+        let mut r = Reader { bytes: &out, at };
+        let b = r.boolean();
+        show_number(to, b.map(u64::from), r.at)?;
     }
     for at in [20, 21] {
         show_u32(to, &out, at)?;
@@ -162,7 +152,9 @@ fn show_numbers<W: Write>(to: &mut W) -> io::Result<()> {
     }
     show_u32(to, &out, 25)?;
     for (at, n) in [(4, 0), (8, 16), (8, 17), (30, 0)] {
-        show_fixed(to, &out, at, n)?;
+        let mut r = Reader { bytes: &out, at };
+        let part = r.fixed(n);
+        show_part(to, part, r)?;
     }
     Ok(())
 }
@@ -186,9 +178,9 @@ fn show_arrays<W: Write>(to: &mut W) -> io::Result<()> {
     w.array(&[17, 8192, 24576]);
     w.array(&[]);
     writeln!(to, "{}", Hex(&out))?;
-    show_array(to, &out, 0, 3)?;
-    show_array(to, &out, 0, 2)?;
-    show_array(to, &out, 16, 0)?;
+    for (at, limit) in [(0, 3), (0, 2), (16, 0)] {
+        show_array(to, &out, at, limit)?;
+    }
     show_array(to, &out[..3], 0, 3)?;
     show_array(to, &out[..15], 0, 3)
 }

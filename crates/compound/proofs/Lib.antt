@@ -5,3 +5,4 @@ pub mod WholeLaws
 pub mod ReadLaws
 pub mod RunLaws
 pub mod LoopLaws
+pub mod ServeLaws

@@ -1,6 +1,6 @@
 -- A file's bytes and its pieces as they are answered.
 use Prim.Native.Nat.{ℕ, suc, ◌+◌, ◌-◌, ◌*◌, ◌≤◌, ◌<◌}
-use mathlib.Core.Path.{◌≡◌, refl, sym, ap, ◌∙◌, subst}
+use mathlib.Core.Path.{◌≡◌, refl, sym, ◌∙◌}
 use mathlib.Core.Bool.{Bool, true, false, cond}
 use mathlib.Core.List.{List, [], ◌∷◌}
 use native.Mathlib.Nat.{add-zero}
@@ -50,8 +50,7 @@ module _ (g : Geometry) (st : Store) (f off end : ℕ) (w₀ : Writer) where
   module _ {i count : ℕ} {w : Writer} (left : Left g st f off end w₀ i count w) where
     pub left-none : end ≤ i → (count ≡ length (pieces_to g st f off end)) × Wrote (concat_map (piece_bytes g st f) (pieces_to g st f off end)) w₀ w
     left-none l =
-        let e : pieces_to g st f i end ≡ [] = pieces_none g st f end (suc g.S) i l in
-        (
+        let e : pieces_to g st f i end ≡ [] = pieces_none g st f end (suc g.S) i l in (
           sym (add-zero count) ∙ rw e at left.number,
           left.all w (rw e (wrote_none w)),
         )

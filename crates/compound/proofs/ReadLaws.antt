@@ -1,6 +1,6 @@
 -- READ, READ_PLUS and GETATTR: room for their bodies, and the products of GETATTR.
-use Prim.Native.Nat.{ℕ, ◌+◌, ◌-◌, ◌*◌, ◌≤◌, ◌<◌, min}
-use mathlib.Core.Path.{◌≡◌, sym}
+use Prim.Native.Nat.{ℕ, ◌+◌, ◌*◌, ◌≤◌, ◌<◌}
+use mathlib.Core.Path.{◌≡◌}
 use mathlib.Core.List.{List, append-nil}
 use Rattle.xdr.specs.Encode.{u32, opaque}
 use native.Mathlib.Nat.{mul-le-mul}
@@ -8,7 +8,7 @@ use native.Mathlib.Omega.{arith}
 use lib.ListN.{length, length-append}
 use Rattle.xdr.proofs.EncodeLaws.{length-u32, length-bool}
 use Rattle.rules.specs.Store.{Geometry, Store, bytes_from}
-use Rattle.rules.specs.Read.{granted, read_pieces}
+use Rattle.rules.specs.Read.{read_pieces}
 use Rattle.rules.specs.Operation.{read_plus_reply}
 use Rattle.rules.proofs.GeometryLaws.{Good, block-pos}
 use Rattle.rules.proofs.SoundStore.{Sound}

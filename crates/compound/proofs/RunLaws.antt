@@ -1,9 +1,8 @@
 -- From the parts of an operation to its answer: what it does and the bytes that were written, against the rules' event.
-use Prim.Native.Nat.{ℕ, zero, suc, ◌-◌, ◌^◌, ◌≤◌, ◌<◌}
+use Prim.Native.Nat.{ℕ, zero, suc, ◌-◌, ◌^◌, ◌<◌}
 use mathlib.Core.Path.{◌≡◌, refl, sym, ap, ◌∙◌, subst}
-use mathlib.Core.Bool.{Bool, true, false, cond}
-use mathlib.Core.List.{List, [], ◌++◌, append_assoc, append-nil}
-use mathlib.Core.Logic.{◌≢◌}
+use mathlib.Core.Bool.{true, false}
+use mathlib.Core.List.{List, ◌++◌, append_assoc, append-nil}
 use native.Mathlib.Decide.{dec_lt}
 use native.Mathlib.Omega.{arith}
 use borrow.Author.Tests.{le-leb}
@@ -19,7 +18,7 @@ use Rattle.rules.specs.Edit.{Edit, edited}
 use Rattle.rules.specs.Operation.{NOSPC, Op, op, bad, op_number, item_at}
 use Rattle.rules.specs.Fault.{NOWHERE, fault_at}
 use Rattle.rules.specs.Run.{State, Config, Event, failed, errors, sets, shows, edits, does, edit_of, effect, body, counted_after, perform}
-use Rattle.rules.specs.Calls.{result_bytes, place_after}
+use Rattle.rules.specs.Calls.{place_after}
 use Rattle.rules.proofs.ItemLaws.{Known, item-known}
 use Rattle.rules.proofs.GeometryLaws.{Good, file-most}
 use Rattle.rules.proofs.SoundStore.{Sound}

@@ -1,23 +1,17 @@
 -- What is found of an operation before it is run: its first error, or what it does.
-use Rattle.std.specs.Prelude.{ℕ, ◌-◌, ◌<◌, ◌≡◌, true, cond, ◌||◌, not, List, [], Some, Result, Ok, Err, IfOk, IfErr}
+use Rattle.std.specs.Prelude.{ℕ, ◌<◌, ◌≡◌, true, cond, ◌||◌, not, Some, Result, IfOk, IfErr}
 use Rattle.xdr.specs.Bytes.{part_of}
-use Rattle.xdr.specs.Encode.{u32, opaque}
 use Rattle.rules.specs.Lists.{first}
-use Rattle.rules.specs.Store.{Geometry, Store}
-use Rattle.rules.specs.Attributes.{file_attrs}
-use Rattle.rules.specs.Operation.{Op, attrs_reply, read_reply, read_plus_reply, seek_reply, write_reply, copy_reply, NOFILEHANDLE, BAD_STATEID}
+use Rattle.rules.specs.Store.{Store}
+use Rattle.rules.specs.Operation.{Op, NOFILEHANDLE, BAD_STATEID}
 use Rattle.rules.specs.Run.{State, no_file, read_stateid, zero_stateid, Does, sets, shows, edits, does, errors}
 use Rattle.tables.specs.Lent.{geometry_of}
 use Rattle.store.specs.Whole.{whole}
-use Rattle.store.specs.declared.edit.Act.{Act}
-use Rattle.store.specs.declared.edit.Edit.{Edit}
 use Rattle.store.specs.Edits.{edit_from, ActKnown}
-use Rattle.wire.specs.Attrs.{asks}
 use Rattle.wire.specs.declared.operation.CloneArgs.{CloneArgs}
 use Rattle.wire.specs.declared.status.Status.{Status}
 use Rattle.wire.specs.Status.{number_of}
 use Rattle.compound.specs.declared.check.Context.{Context}
-use Rattle.compound.specs.declared.reads.View.{View}
 use Rattle.compound.specs.declared.does.Does as Code
 use Rattle.compound.specs.Runner.{file_in, state_of, first_of}
 use Rattle.compound.specs.Shown.{view_bytes, edit_bytes}

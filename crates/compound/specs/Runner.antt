@@ -1,15 +1,15 @@
 -- The runner's values and what its functions leave.
-use Rattle.std.specs.Prelude.{ℕ, ◌+◌, ◌<◌, ◌≡◌, cond, List, length, eqb, Some, None, Result, Ok, Err, IfErr}
+use Rattle.std.specs.Prelude.{ℕ, ◌<◌, ◌≡◌, cond, List, length, eqb, Some, None, Result, Ok, Err, IfErr}
 use Rattle.std.specs.declared.option.Option as Std
 use Rattle.std.proofs.Math.Option.{Option, none, some}
 use Rattle.xdr.specs.Encode.{u64, concat_map}
 use Rattle.xdr.specs.Writing.{Wrote}
 use Rattle.xdr.specs.declared.writer.Writer.{Writer}
 use Rattle.rules.specs.Store.{Store}
-use Rattle.rules.specs.Operation.{BADXDR, Item, op, bad}
+use Rattle.rules.specs.Operation.{BADXDR, Item, op, bad, Header}
 use Rattle.rules.specs.Fault.{NOWHERE, fault_at}
 use Rattle.rules.specs.Run.{State, Config, config, Event, failed, perform}
-use Rattle.rules.specs.Calls.{result_bytes, place_after, last_place, last_status, last_store, Call, Outcome}
+use Rattle.rules.specs.Calls.{result_bytes, place_after, last_place, last_status, last_store, compound, Call, Outcome, with_place, served, last_fault, Gives}
 use Rattle.tables.specs.Lent.{geometry_of}
 use Rattle.tables.specs.declared.geometry.Geometry.{Geometry}
 use Rattle.wire.specs.declared.status.Status.{Status}
@@ -119,3 +119,9 @@ refused_place r = NOWHERE
 abbrev pub outcome : Result Served Refused → List ℕ → Store → Outcome Store
 outcome (Ok r) reply st = record { number = 0; read = r.read; written = r.written; place = place_told r.place; reply = reply; store = st }
 outcome (Err e) reply st = record { number = refused_number e; read = 0; written = 0; place = refused_place e; reply = reply; store = st }
+
+-- a compound served: what the rules say of it, the place of a fault with it
+abbrev pub ServedAs : Config → Store → List ℕ → Header → ℕ → List ℕ → Served → List ℕ → Store → Type 0
+ServedAs c st s h at buf r reply after =
+    let zs = compound c st s h at in
+    Gives (with_place (last_fault s h at zs) (served buf st h at zs)) (outcome (Ok r) reply after)

@@ -255,7 +255,9 @@ impl<'r> Context<'_, 'r> {
         ensures { result ≡ not (uneven (geometry_of self.now.store.now.geometry) (store_in self.now) source from to n) }
     {
         let block = self.store.geometry.block_size as u64;
-        from % block == 0 && to % block == 0 && (n % block == 0 || self.store.sizes[source] - from == n)
+        from % block == 0
+            && to % block == 0
+            && (n % block == 0 || self.store.sizes[source] - from == n)
     }
 
     // The first error of an operation that was read, NOSPC aside; or what it does.

@@ -9,6 +9,8 @@ mod pieces;
 mod reads;
 mod run;
 mod served;
+mod serving;
 mod stateid;
 
 pub use served::{Refused, Served};
+pub use serving::serve;

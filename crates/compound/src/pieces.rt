@@ -39,13 +39,7 @@ fn put_bytes(store: &Store<'_, '_>, file: usize, from: usize, n: usize, w: &mut 
 
 // The file's n bytes from `from` on as opaque data: read into the place where they are answered.
 #[tactic(auto, using(xdr::proofs::EncodeLaws::lengths, crate::proofs::PieceLaws::length_bytes), unfolding(xdr::specs::Encode::opaque))]
-pub fn put_file_bytes(
-    store: &Store<'_, '_>,
-    file: usize,
-    from: usize,
-    n: usize,
-    w: &mut Writer<'_>,
-)
+pub fn put_file_bytes(store: &Store<'_, '_>, file: usize, from: usize, n: usize, w: &mut Writer<'_>)
     requires file { file < store.now.geometry.files }
     requires fits { from + n ≤ store.now.geometry.slots * store.now.geometry.block_size }
     requires room { HasRoom (opaque_size n) w.old }

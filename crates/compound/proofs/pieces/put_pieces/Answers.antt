@@ -1,4 +1,4 @@
-use Rattle.std.proofs.Common.{rules, ◌<◌, ◌≤◌, ◌*◌, arith}
+use Rattle.std.proofs.Common.{rules, ◌<◌, arith}
 use Rattle.tables.specs.Lent.{geometry_of}
 use Rattle.store.specs.Whole.{whole}
 use Rattle.compound.proofs.PieceLaws.{left-all, left-none, left-room, left-on}

@@ -1,4 +1,4 @@
-use Rattle.std.proofs.Common.{◌≡◌, arith, ◌∙◌}
+use Rattle.std.proofs.Common.{◌≡◌, arith}
 use Rattle.xdr.proofs.WritingLaws.{wrote_then}
 use Rattle.rules.specs.Read.{read_count}
 use Rattle.rules.specs.Operation.{read_reply}

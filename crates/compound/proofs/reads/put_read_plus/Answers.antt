@@ -1,4 +1,4 @@
-use Rattle.std.proofs.Common.{◌≡◌, ◌+◌, min, arith, length-append, append_assoc, ◌∙◌}
+use Rattle.std.proofs.Common.{◌≡◌, ◌+◌, min, arith, append_assoc, ◌∙◌}
 use Rattle.xdr.proofs.EncodeLaws.{length-u32, length-bool}
 use Rattle.xdr.proofs.WritingLaws.{wrote_then, wrote_over}
 use Rattle.rules.specs.Store.{size_of}

@@ -1,4 +1,4 @@
-use Rattle.std.proofs.Common.{rules, arith, sym, ◌∙◌}
+use Rattle.std.proofs.Common.{rules, arith, ◌∙◌}
 use Rattle.xdr.proofs.EncodeLaws.{length-u64}
 use Rattle.store.specs.Whole.{whole, KeepsWhole}
 use Rattle.compound.proofs.WholeLaws.{limits}

@@ -12,4 +12,4 @@ invariant-loop-turn l =
     × (l.reader.bytes ≡ l.initial.reader.bytes)
     × Named l.initial.store.geometry.files l.handles
     × Held (geometry_of l.initial.store.geometry) (u64 l.verifier) l.initial.reader.bytes.now (whole l.initial.store) l.operations l.initial.reader.at l.initial.w
-        (state_of l.handles (whole l.store)) l.turn l.reader.at l.w
+    (state_of l.handles (whole l.store)) l.turn l.reader.at l.w

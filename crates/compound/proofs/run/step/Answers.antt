@@ -1,4 +1,4 @@
-use Rattle.std.proofs.Common.{rules, ◌≡◌, Err, None, ap, ◌∙◌}
+use Rattle.std.proofs.Common.{rules, ◌≡◌, Err, None, ◌∙◌}
 use Rattle.wire.specs.Decoded.{meaning, fault_place}
 use Rattle.store.specs.Whole.{whole}
 use Rattle.compound.specs.Runner.{config_of, place_told}

@@ -113,6 +113,8 @@ fn note_from<const HELD: bool>(words: &[u32], counts: &mut [u32], i: usize) -> u
     1
 }
 
+// Never inlined: the loop is faster in a function of its own.
+#[inline(never)]
 fn note_groups<const HELD: bool>(words: &[u32], counts: &mut [u32])
     requires { GroupsFit HELD words.now counts.old }
     ensures { NotedAll words.now counts.old counts.new }

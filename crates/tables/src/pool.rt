@@ -5,6 +5,7 @@ ghost use Rattle.rules.specs.Store.{fits_pool};
 ghost use Rattle.tables.specs.Tables.{TableTrue};
 ghost use Rattle.tables.specs.Tally.{takes_by, owes_by, InTable, OwedFrom, OwedKnown, RoomKnown, first_zero, HeldFrom};
 
+use crate::counted::Counted;
 use crate::groups::{Group, all_where, count_where, group_at, group_where};
 use crate::tally::block_or;
 
@@ -75,36 +76,36 @@ pub fn owed_slots(words: &[u32], counts: &[u32]) -> usize
     sum
 }
 
-// The same where so many slots hold a block, so many blocks are used, and a slot is reserved or none is. Without a reserved slot
+// The same where that is counted of the slots, and so many blocks are used. Without a reserved slot
 // nothing is owed. Where each slot that holds a block holds it alone, reserved holes are.
-pub fn owed_of(held: usize, used: usize, reserved: bool, words: &[u32], counts: &[u32]) -> usize
-    requires { OwedKnown held used reserved words.now counts.now }
+pub fn owed_of(counted: Counted, used: usize, words: &[u32], counts: &[u32]) -> usize
+    requires { OwedKnown counted.held used counted.reserved words.now counts.now }
     ensures { result ≡ count (owes_by counts.now) words.now }
 {
-    if !reserved {
+    if !counted.reserved {
         return 0;
     }
-    if held == used {
+    if counted.held == used {
         return count_where(words, |word| word == 1);
     }
     owed_slots(words, counts)
 }
 
-// Whether used and owed blocks fit the pool, where so many slots hold a block, and one is reserved or none is. They are counted only
+// Whether used and owed blocks fit the pool, where that is counted of the slots. They are counted only
 // where they may not fit: nothing is owed without a reserved slot, and they are never more than the slots that hold a block and those
 // that are reserved.
-pub fn fits_of(held: usize, reserved: bool, words: &[u32], counts: &[u32]) -> bool
-    requires { RoomKnown held reserved words.now counts.now }
+pub fn fits_of(counted: Counted, words: &[u32], counts: &[u32]) -> bool
+    requires { RoomKnown counted.held counted.reserved words.now counts.now }
     ensures { result ≡ fits_pool (length counts.now) words.now }
 {
-    if !reserved {
+    if !counted.reserved {
         return true;
     }
-    if held + count_where(words, |word| word % 2 == 1) <= counts.len() {
+    if counted.held + count_where(words, |word| word % 2 == 1) <= counts.len() {
         return true;
     }
     let used = used_blocks(counts);
-    used + owed_of(held, used, reserved, words, counts) <= counts.len()
+    used + owed_of(counted, used, words, counts) <= counts.len()
 }
 
 // The same, counting those slots.
@@ -115,7 +116,11 @@ pub fn fits_pool(words: &[u32], counts: &[u32]) -> bool
     if all_where(words, |word| word % 2 != 1) {
         return true;
     }
-    fits_of(count_where(words, |word| 1 < word), true, words, counts)
+    let counted = Counted {
+        held: count_where(words, |word| 1 < word),
+        reserved: true,
+    };
+    fits_of(counted, words, counts)
 }
 
 // How many blocks from a block on are seen to be held: the group that starts there, the block, or none.

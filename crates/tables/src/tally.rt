@@ -81,8 +81,8 @@ fn note_mixed(counts: &mut [u32], word: u32, own: usize)
     requires { Notable word counts.old × (own < length counts.old) }
     ensures { counts.new ≡ noted (word / 2) counts.old }
 {
-    let b = block_or(word, own);
-    counts[b] += u32::from(1 < word);
+    let block = block_or(word, own);
+    counts[block] += u32::from(1 < word);
 }
 
 // One more holder of its block for each word; HELD says that each holds one. Holes add nothing to numbers of their own, so that none waits
@@ -113,6 +113,8 @@ fn note_from<const HELD: bool>(words: &[u32], counts: &mut [u32], i: usize) -> u
     1
 }
 
+// Never inlined: the loop is faster in a function of its own.
+#[inline(never)]
 fn note_groups<const HELD: bool>(words: &[u32], counts: &mut [u32])
     requires { GroupsFit HELD words.now counts.old }
     ensures { NotedAll words.now counts.old counts.new }

@@ -10,7 +10,7 @@ use Rattle.rules.specs.Store.{Geometry, Store, is_hole, size_of}
 use Rattle.rules.specs.Edit.{cleared, owns, covers, from_holes, clears, kind_of}
 use Rattle.rules.specs.Read.{is_hole_at}
 use Rattle.rules.proofs.GeometryLaws.{Good, good, block-pos}
-use Rattle.rules.proofs.SoundStore.{div_le, div_ge, div_lt, slot_bytes_lem, slots-fit}
+use Rattle.rules.proofs.SoundStore.{div_le, div_ge, div_lt, slot_bytes_lem}
 use Rattle.rules.proofs.WriteLaws.{covered-is}
 use Rattle.rules.proofs.CopyLaws.{from_all, from_one}
 use Rattle.xdr.proofs.BoolLaws.{and_false}

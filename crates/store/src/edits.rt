@@ -1,5 +1,5 @@
 // The one call that edits: the plan, and where it fits the pool the bytes and the size.
-ghost use Rattle.std.specs.Prelude.{◌≡◌, true, ◌*◌, ◌<◌, ◌≤◌, ◌-◌, is_ok};
+ghost use Rattle.std.specs.Prelude.{◌≡◌, ◌*◌, ◌<◌, ◌≤◌, ◌-◌, is_ok};
 ghost use Rattle.rules.specs.Edit.{slot_count, edited};
 ghost use Rattle.store.specs.EditPromises.{EditPromise};
 ghost use Rattle.store.specs.Edits.{Applies, edit_from};

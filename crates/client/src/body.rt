@@ -2,7 +2,8 @@
 ghost use Rattle.std.specs.Prelude.{◌≡◌};
 ghost use Rattle.xdr.specs.Decode.{times};
 ghost use Rattle.xdr.specs.Reading.{parsed, itself};
-ghost use Rattle.rules.specs.Client.{piece_layout, body_by};
+ghost use Rattle.rules.specs.Operation.{reading, copy_result};
+ghost use Rattle.rules.specs.Client.{piece_layout, copied, body_by};
 ghost use Rattle.client.specs.Read.{of_piece, of_body, end_of};
 
 use crate::reply::{
@@ -40,6 +41,23 @@ fn past_pieces(r: &mut Reader<'_>, n: u32) -> Option<()>
     Some(())
 }
 
+// COPY's, without callback ids.
+#[tactic(auto, unfolding(xdr::specs::Decode::fixed))]
+fn copied_body(r: &mut Reader<'_>) -> Option<Body>
+    ensures value { parsed (of_body r.old.bytes.now) result r.new.at
+        ≡ reading copy_result (λ a. copied a.1.0 a.1.1.0 a.1.1.1.0 a.1.1.1.1.0 a.1.1.1.1.1) r.old.bytes.now r.old.at }
+    ensures bytes { r.new.bytes ≡ r.old.bytes }
+{
+    r.up_to(Body::CALLBACKS)?;
+    Some(Body::Copied(CopiedBody {
+        count: r.u64()?,
+        committed: r.up_to(Operation::MAX_STABLE)?,
+        verifier: r.fixed(Body::VERIFIER)?,
+        consecutive: r.boolean()?,
+        synchronous: r.boolean()?,
+    }))
+}
+
 // The body of an operation that answers OK. One that is not served has none that can be read.
 #[tactic(auto, using(crate::proofs::ReadLaws::from_end, crate::proofs::ReadLaws::from_fault), unfolding(xdr::specs::Decode::fixed, xdr::specs::Decode::opaque_up_to, xdr::specs::Decode::array_up_to))]
 pub fn ok_body(r: &mut Reader<'_>, number: u32) -> Option<Body>
@@ -47,54 +65,30 @@ pub fn ok_body(r: &mut Reader<'_>, number: u32) -> Option<Body>
     ensures bytes { r.new.bytes ≡ r.old.bytes }
 {
     match number {
-        Operation::GETATTR => {
-            let bitmap = r.array(Reader::MAX_LENGTH)?;
-            let values = r.opaque(Reader::MAX_LENGTH)?;
-            Some(Body::Attrs(AttrsBody { bitmap, values }))
-        }
+        Operation::GETATTR => Some(Body::Attrs(AttrsBody {
+            bitmap: r.array(Reader::MAX_LENGTH)?,
+            values: r.opaque(Reader::MAX_LENGTH)?,
+        })),
         Operation::GETFH => Some(Body::Handle(r.opaque(Operation::MAX_HANDLE)?)),
-        Operation::READ => {
-            let eof = r.boolean()?;
-            let data = r.opaque(Reader::MAX_LENGTH)?;
-            Some(Body::FileData(DataBody { eof, data }))
-        }
-        Operation::WRITE => {
-            let count = r.u32()?;
-            let committed = r.up_to(Operation::MAX_STABLE)?;
-            let verifier = r.fixed(Body::VERIFIER)?;
-            Some(Body::Written(WrittenBody {
-                count,
-                committed,
-                verifier,
-            }))
-        }
-        Operation::COPY => {
-            r.up_to(Body::CALLBACKS)?;
-            let count = r.u64()?;
-            let committed = r.up_to(Operation::MAX_STABLE)?;
-            let verifier = r.fixed(Body::VERIFIER)?;
-            let consecutive = r.boolean()?;
-            let synchronous = r.boolean()?;
-            Some(Body::Copied(CopiedBody {
-                count,
-                committed,
-                verifier,
-                consecutive,
-                synchronous,
-            }))
-        }
+        Operation::READ => Some(Body::FileData(DataBody {
+            eof: r.boolean()?,
+            data: r.opaque(Reader::MAX_LENGTH)?,
+        })),
+        Operation::WRITE => Some(Body::Written(WrittenBody {
+            count: r.u32()?,
+            committed: r.up_to(Operation::MAX_STABLE)?,
+            verifier: r.fixed(Body::VERIFIER)?,
+        })),
+        Operation::COPY => copied_body(r),
         Operation::READ_PLUS => {
-            let eof = r.boolean()?;
-            let count = r.u32()?;
-            let first = r.at;
+            let (eof, count, first) = (r.boolean()?, r.u32()?, r.at);
             past_pieces(r, count)?;
             Some(Body::Pieces(PiecesBody { eof, count, first }))
         }
-        Operation::SEEK => {
-            let eof = r.boolean()?;
-            let offset = r.u64()?;
-            Some(Body::Sought(SoughtBody { eof, offset }))
-        }
+        Operation::SEEK => Some(Body::Sought(SoughtBody {
+            eof: r.boolean()?,
+            offset: r.u64()?,
+        })),
         Operation::PUTFH
         | Operation::RESTOREFH
         | Operation::SAVEFH

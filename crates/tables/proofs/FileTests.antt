@@ -3,7 +3,7 @@ use Prim.Native.Nat.{ℕ, zero, suc, ◌+◌, ◌-◌, ◌*◌, ◌/◌, ◌%◌
 use mathlib.Core.Path.{◌≡◌, refl, sym, ◌∙◌}
 use mathlib.Core.Bool.{Bool, true, false, ◌&&◌, ◌||◌, not}
 use mathlib.Core.List.{List}
-use native.Mathlib.Nat.{le_refl, add-zero, add-suc, add_assoc, add-sub_of_le, div-add-mod', mod-lt, mul-le-mul_right, le_of_mul-le-mul_right, mul-add-div_right, mul-add-mod_self_right, div-eq_of_lt, mod-eq_of_lt}
+use native.Mathlib.Nat.{add-zero, add-suc, add_assoc, add-sub_of_le, div-add-mod', mod-lt, mul-le-mul_right, mul-add-div_right, mul-add-mod_self_right, div-eq_of_lt, mod-eq_of_lt}
 use native.Mathlib.Numerals.{sub-one}
 use native.Mathlib.Decide.{dec_le}
 use native.Mathlib.Omega.{arith}
@@ -31,14 +31,6 @@ all_to_from c (suc d) p = rw (add-suc c d, le-ltb (c + d) c (omega arith), all_t
 
 abbrev pub zeros : List ℕ → Bool
 zeros l = all_to (length l) (λ j. eqb (get_or l j 0) 0)
-
--- as the code tests words
-pub zeros-most : (l : List ℕ) → all_to (length l) (λ j. leb (get_or l j 0) 0) ≡ zeros l
-zeros-most l = all_to_ext (length l) _ _ (λ j h. none (get_or l j 0))
-  where
-    none : (x : ℕ) → leb x 0 ≡ eqb x 0
-    none zero = refl
-    none (suc x) = lt-leb (suc x) 0 (omega arith) ∙ sym (ne_eqb (suc x) 0 (λ (e : suc x ≡ 0). omega arith))
 
 -- of s elements at place k those from `from` on, as the code lends them
 abbrev pub part : List ℕ → ℕ → ℕ → ℕ → List ℕ
@@ -94,23 +86,9 @@ module _ {b : ℕ} (pos : 0 < b) (n : ℕ) where
       go (yes l) = absurd (d (omega (arith, div-add-mod' n b, le_ceil pos n (n / b) l)))
       go (no u) = omega (arith, u, ceil_le pos n (suc (n / b)) (omega (arith, div-add-mod' n b, mod-lt n pos)))
 
-  -- the slots that n bytes have, by quotient and rest
-  pub ceil-whole : n % b ≡ 0 → n / b ≡ ceil_div n b
-  ceil-whole e =
-      let l : ceil_div n b ≤ n / b = ceil_le pos n (n / b) (omega (arith, div-add-mod' n b)) in
-      let u : n / b ≤ ceil_div n b = le_of_mul-le-mul_right (omega (arith, div-add-mod' n b, ceil-even e, le_ceil pos n (ceil_div n b) (le_refl _))) pos in
-      omega arith
-
-  pub ceil-part : (n % b ≡ 0 → ⊥) → n / b + 1 ≡ ceil_div n b
-  ceil-part d = omega (arith, ceil-odd d)
-
   -- the slot that n cuts is below its end
   pub cut_below : (n % b ≡ 0 → ⊥) → n / b < ceil_div n b
   cut_below d = omega (arith, ceil-odd d)
-
-  -- the slot that n cuts is one of the s slots that n fits in
-  pub cut-slot : (s : ℕ) → n ≤ s * b → (n % b ≡ 0 → ⊥) → n / b < s
-  cut-slot s h d = omega (arith, ceil-odd d, ceil_le pos n s h)
 
 -- ---- a file
 

@@ -51,9 +51,6 @@ module _ (g : Geometry) (st : Store) (counts : List ℕ) (f : ℕ) (shaped : Sha
   pub slots-inside : f * g.S + g.S ≤ length st.words
   slots-inside = omega (arith, (lengths g st shaped.lengths).slots, mul-le-mul_right g.S ready.file)
 
-  pub size-there : f < length st.sizes
-  size-there = omega (arith, (lengths g st shaped.lengths).files, ready.file)
-
   pub room_small : g.S * g.B ≤ 4194304
   room_small = file-most g is_good
 
@@ -63,9 +60,6 @@ module _ (g : Geometry) (st : Store) (counts : List ℕ) (f : ℕ) (shaped : Sha
   size_fails h = rw (lt-leb (size_of st f) (g.S * g.B) h, and_false)
 
   module _ (fits : size_of st f ≤ g.S * g.B) where
-    pub size_small : size_of st f ≤ 4194304
-    size_small = omega (arith, room_small)
-
     pub end-inside : end ≤ g.S
     end-inside = ceil_le block-some (size_of st f) g.S fits
 
@@ -126,9 +120,6 @@ module _ (g : Geometry) (st : Store) (counts : List ℕ) (f : ℕ) (shaped : Sha
             leb-true (word_of g st.words f k / 2) g.N
             (all_to_at end (λ k. leb (word_of g st.words f k / 2) g.N) (sym formed_is ∙ sym ok) k l);
       }
-
-      pub sound_fails : false ≡ sound_file g st f → false ≡ file_passes g st f
-      sound_fails e = rw (sym e, and_false)
 
       module _ (fine : true ≡ sound_file g st f) where
         pub file_passes_lem : true ≡ file_passes g st f

@@ -5,10 +5,9 @@ use mathlib.Core.Bool.{Bool, true, false, ◌&&◌, ◌||◌, not, true≢false}
 use mathlib.Core.List.{List, [], ◌∷◌}
 use native.Mathlib.Nat.{le_of_suc-le-suc}
 use native.Mathlib.Decide.{dec_lt}
-use native.Mathlib.Numerals.{add-one}
 use native.Mathlib.Omega.{arith}
 use borrow.Author.Tests.{eqb-true, eqb-false, lt-ltb, le-ltb, ltb-true, ltb-false, le-leb}
-use lib.ListN.{length, length-take, get_or, take, drop}
+use lib.ListN.{length, get_or, take, drop}
 use lib.Seq.{drop-drop}
 use lib.Dec.{leb, ltb, eqb}
 use Rattle.rules.specs.Lists.{bit, count, sum_to, count_to, all_to}
@@ -16,13 +15,12 @@ use Rattle.rules.specs.Store.{is_hole, is_reserved, is_shared, block_bound, used
 use Rattle.tables.specs.Tables.{Tallied, TableTrue}
 use Rattle.tables.specs.Tally.{some_reserved, takes_by, owes_by, InTable, OwedFrom, first_zero, HeldFrom}
 use Rattle.tables.specs.Groups.{group_at, group_all}
-use Rattle.rules.proofs.CountLaws.{sum_to_ext, count-drop, count-parts, count_most}
+use Rattle.rules.proofs.CountLaws.{sum_to_ext, count-parts, count_most}
 use Rattle.rules.proofs.NeedLaws.{lowest_free-free, scan-ends, used-to}
 use Rattle.rules.proofs.BoundLaws.{count_right, owed-reserved, need-bound, owed-alone}
 use Rattle.rules.proofs.SoundLaws.{all_to_at}
 use Rattle.rules.proofs.PlanLaws.{InPool}
 use Rattle.tables.proofs.GroupLaws.{count-two, count-all_to, group_room, group_inside, group_each}
-use Rattle.tables.proofs.TallyLaws.{pool-part}
 
 -- ---- tests and counts
 
@@ -74,15 +72,15 @@ first-from l b h held = go (dec_lt (first_zero l) b)
 
 module _ (l : List ℕ) (b : ℕ) (from : b ≤ first_zero l) where
   -- it is b where b is 0, and where nothing is left
-  pub first-here : (b < length l → get_or l b 0 ≡ 0) → b ≡ first_zero l
-  first-here h = go (dec_lt b (first_zero l))
+  pub first_here : (b < length l → get_or l b 0 ≡ 0) → b ≡ first_zero l
+  first_here h = go (dec_lt b (first_zero l))
     where
       go : Dec (b < first_zero l) → b ≡ first_zero l
       go (yes k) = let r = first_below l b k in absurd (omega (arith, r.1, h r.0))
       go (no d) = omega (arith, d)
 
-  pub first-behind : (n : ℕ) → HeldFrom l b n → b + n ≤ first_zero l
-  first-behind n h = first-from l (b + n) h.inside (λ c u. go c u (dec_lt c b))
+  pub first_behind : (n : ℕ) → HeldFrom l b n → b + n ≤ first_zero l
+  first_behind n h = first-from l (b + n) h.inside (λ c u. go c u (dec_lt c b))
     where
       go : (c : ℕ) → c < b + n → Dec (c < b) → 0 < get_or l c 0
       go c u (yes k) = (first_below l c (omega arith)).1
@@ -97,15 +95,6 @@ module _ (l : List ℕ) (b : ℕ) (inside : b < length l) where
   pub held_none : get_or l b 0 ≡ 0 → HeldFrom l b 0
   held_none e = record { inside = omega arith; held = λ j h. absurd (omega arith); free = λ q. e }
 
-  pub held_one : 0 < get_or l b 0 → HeldFrom l b 1
-  held_one e = record {
-    inside = omega arith;
-    held = λ j h.
-        let z : b + j ≡ b = omega arith in
-        rw z e;
-    free = λ q. absurd (omega arith);
-  }
-
   pub held_group : group_all (ltb 0) l b ≡ true → HeldFrom l b 16
   held_group e = record {
     inside = group_inside (ltb 0) l b e;
@@ -116,17 +105,6 @@ module _ (l : List ℕ) (b : ℕ) (inside : b < length l) where
 -- ---- how many are seen to owe a block
 
 module _ (ws cs : List ℕ) (i : ℕ) where
-  pub owed-one : i < length ws → OwedFrom ws cs i 1 (bit (owes_by cs (get_or ws i 0)))
-  owed-one h = record { some = omega arith; inside = omega arith; rest = rw (add-one i) (sym (count-drop (owes_by cs) ws i h)) }
-
-  -- what `owed_each` asks of a group
-  pub group_looked_up : InTable ws cs → InTable (take (i + 16 - i) (drop i ws)) cs
-  group_looked_up h = record {
-    pool = pool-part (length cs) (i + 16 - i) i ws h.pool;
-    some = h.some;
-    few = omega (arith, length-take (i + 16 - i) (drop i ws));
-  }
-
   module _ (group : group_at i (length ws) ≡ true) where
     pub owed_group : OwedFrom ws cs i 16 (count (owes_by cs) (take (i + 16 - i) (drop i ws)))
     owed_group =

@@ -17,7 +17,7 @@ use Rattle.rules.specs.Attributes.{slots_of, others_of, takes_room, held_alone, 
 use Rattle.rules.proofs.CountLaws.{bit-most, count_most, sum_to_ext, sum_to_point, sum_to_cut, count-drop, count-end}
 use Rattle.rules.proofs.EmptyingLaws.{alone-cut, file-parts}
 use Rattle.rules.proofs.PlanLaws.{InPool}
-use Rattle.tables.specs.Tally.{forgot, Forgettable, NotesFit, NotedAll, owes_by}
+use Rattle.tables.specs.Tally.{forgot, NotedAll, owes_by}
 use Rattle.tables.specs.Space.{Counted, block_free, ForgotLast, held_only, ForgotAll, SlotsKnown, SlotsSpace, SpaceKnown, SpaceIs}
 use Rattle.tables.proofs.TallyLaws.{pool-part}
 use Rattle.tables.proofs.PoolLaws.{count_ext, pool-top, takes_same}
@@ -77,9 +77,6 @@ pub record Forgetting (ws before counts : List ℕ) (n i : ℕ) : Type 0 where
   pub each : (b : ℕ) → b < length counts → get_or counts b 0 + holders b ws ≡ get_or before b 0 + holders b (drop i ws)
   pub rest : n + count_to (length counts) (held_only (drop i ws) counts) ≡ count_to (length before) (held_only ws before)
 
-pub forgetting_none : (ws cs : List ℕ) → Forgetting ws cs cs 0 0
-forgetting_none ws cs = record { within = omega arith; long = refl; each = λ b h. refl; rest = omega arith }
-
 module _ {ws before counts : List ℕ} {n i : ℕ} (known : Counted ws before) (f : Forgetting ws before counts n i) where
   left : (b : ℕ) → b < length counts → holders b (drop i ws) ≤ get_or counts b 0
   left b h = omega (arith, f.each b h, known.held b (omega (arith, f.long)))
@@ -93,10 +90,6 @@ module _ {ws before counts : List ℕ} {n i : ℕ} (known : Counted ws before) (
 
     holder : (b : ℕ) → b < length counts → get_or ws i 0 / 2 ≡ suc b → 1 ≤ get_or counts b 0
     holder b h e = omega (arith, left b h, count-drop (holds b) ws i inside, ap bit (eq-eqb (get_or ws i 0 / 2) (suc b) e))
-
-    -- what `forget_last` asks
-    pub forget_asks : Forgettable (get_or ws i 0) counts
-    forget_asks = record { pool = pool; held = λ h. holder (get_or ws i 0 / 2 - 1) (omega (arith, pool)) (omega arith) }
 
     pub forgetting_more : {last : Bool} {m : ℕ} {after : List ℕ} → ForgotLast (get_or ws i 0) last counts after → m ≡ bit last → Forgetting ws before after (n + m) (i + 1)
     forgetting_more {last} {m} {after} t is =
@@ -127,16 +120,6 @@ module _ {ws before counts : List ℕ} {n i : ℕ} (known : Counted ws before) (
 -- ---- slots forgotten and noted again
 
 module _ {ws before mid : List ℕ} {alone : ℕ} (known : SlotsKnown ws before) (forgotten : ForgotAll ws alone before mid) where
-  -- what `note_all` asks
-  pub note_asks : NotesFit ws mid
-  note_asks = record {
-    pool = rw forgotten.long known.counted.pool;
-    few = λ b h.
-        let l : b < length before = omega (arith, forgotten.long) in
-        omega (arith, forgotten.each b l, known.few b l);
-    short = known.looked_up.few;
-  }
-
   pub alone-few : alone ≤ length before
   alone-few = omega (arith, forgotten.last, count_to_most (length before) (held_only ws before))
 

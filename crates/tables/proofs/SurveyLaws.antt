@@ -1,13 +1,13 @@
 -- The survey: what its tests and counts say of a store.
-use Prim.Native.Nat.{ℕ, zero, suc, ◌+◌, ◌*◌, ◌/◌, ◌%◌, ◌≤◌, ◌<◌}
+use Prim.Native.Nat.{ℕ, ◌+◌, ◌*◌, ◌/◌, ◌%◌, ◌≤◌, ◌<◌}
 use mathlib.Core.Path.{◌≡◌, refl, sym, ap, subst, ◌∙◌}
 use mathlib.Core.Bool.{Bool, true, false, ◌&&◌, ◌||◌, true≢false}
-use mathlib.Core.List.{List, ◌∷◌}
-use native.Mathlib.Nat.{le_of_suc-le-suc, div-add-mod', mod-lt, mul-le-mul_right}
+use mathlib.Core.List.{List}
+use native.Mathlib.Nat.{div-add-mod', mod-lt, mul-le-mul_right}
 use native.Mathlib.Decide.{dec_lt}
 use native.Mathlib.Numerals.{add-one}
 use native.Mathlib.Omega.{arith}
-use lib.ListN.{length, get_or, take, drop, replicate, length-replicate, get_or-replicate}
+use lib.ListN.{length, get_or, drop, replicate, length-replicate}
 use lib.Dec.{leb, ltb}
 use borrow.Author.Tests.{le-leb, lt-leb, le-ltb, eqb-true}
 use Rattle.rules.specs.Lists.{all_to, count, ceil_div}
@@ -102,19 +102,6 @@ pub record Testing (g : Geometry) (st : Store) (counts : List ℕ) (f held : ℕ
 
 pub ready_long : (n : ℕ) (counts : List ℕ) → counts ≡ replicate n 0 → length counts ≡ n
 ready_long n counts zeros = ap length zeros ∙ length-replicate n 0
-
-pub testing_none : (g : Geometry) (st : Store) (counts : List ℕ) → counts ≡ replicate g.N 0 → Testing g st counts 0 0 false
-testing_none g st counts zeros =
-    let e : 0 * g.S ≡ 0 = omega arith in
-    let long : length counts ≡ g.N = ready_long g.N counts zeros in
-    record {
-      within = omega arith;
-      long = long;
-      passed = refl;
-      each = λ b h. rw e (omega (arith, ap (λ (l : List ℕ). get_or l b 0) zeros ∙ get_or-replicate g.N b 0 0 (omega (arith, long))));
-      held_rest = rw e (omega arith);
-      reserved_rest = rw e;
-    }
 
 module _ {g : Geometry} {st : Store} {counts : List ℕ} {f held : ℕ} {reserved : Bool} (h : Shaped g st) (t : Testing g st counts f held reserved) where
   most-words : length st.words ≤ 65536
@@ -244,12 +231,6 @@ module _ (g : Geometry) (st : Store) where
           (survey_sound g st h (sound-is ∙ le-leb (used st.words + owed st.words) g.N (omega (arith, used-same, owed_same))))
 
 -- ---- the table's length
-
--- the first n of a longer row of zeros
-pub take_zeros : (n m : ℕ) → n ≤ m → ◌≡◌ {A = List ℕ} (take n (replicate m 0)) (replicate n 0)
-take_zeros zero m h = refl
-take_zeros (suc n) zero h = absurd (omega arith)
-take_zeros (suc n) (suc m) h = ap (λ (l : List ℕ). 0 ∷ l) (take_zeros n m (le_of_suc-le-suc h))
 
 -- ---- a view's tables
 

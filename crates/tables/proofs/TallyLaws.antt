@@ -1,6 +1,6 @@
 -- Laws on the table of holders: how slots are noted in it, one by one, in groups and file by file.
-use Prim.Native.Nat.{ℕ, zero, suc, pred, ◌+◌, ◌-◌, ◌*◌, ◌/◌, ◌%◌, ◌≤◌, ◌<◌}
-use mathlib.Core.Path.{◌≡◌, refl, sym, ap, subst, ◌∙◌}
+use Prim.Native.Nat.{ℕ, zero, suc, pred, ◌+◌, ◌-◌, ◌/◌, ◌≤◌, ◌<◌}
+use mathlib.Core.Path.{◌≡◌, refl, sym, ap, ◌∙◌}
 use mathlib.Core.Bool.{Bool, true, false, cond, ◌||◌}
 use mathlib.Core.List.{List}
 use mathlib.Core.Logic.{◌≢◌}
@@ -14,9 +14,9 @@ use lib.Seq.{get_or-set_same, get_or-set_other, set-get_or, get_or-take, get_or-
 use lib.Dec.{leb, ltb, eqb, eqb-suc-zero}
 use Rattle.rules.specs.Lists.{bit, count, all_to}
 use Rattle.rules.specs.Store.{is_hole, holds, holders}
-use Rattle.tables.specs.Tally.{noted, holds_one, Scannable, Known, HoldAll, Notable, NotesFit, NotesFitAs, NotesFitFrom, NotedAll, NotedFrom}
+use Rattle.tables.specs.Tally.{noted, holds_one, Scannable, Known, HoldAll, NotesFit, NotesFitAs, NotesFitFrom, NotedAll, NotedFrom}
 use Rattle.tables.specs.Groups.{group_at}
-use Rattle.rules.proofs.CountLaws.{count-drop, count-parts, count-end, count_most, count-all-at}
+use Rattle.rules.proofs.CountLaws.{count-drop, count-parts, count_most, count-all-at}
 use Rattle.rules.proofs.BoundLaws.{holders-held}
 use Rattle.rules.proofs.SoundLaws.{all_to_at}
 use Rattle.rules.proofs.PlanLaws.{InPool}
@@ -24,29 +24,14 @@ use Rattle.tables.proofs.GroupLaws.{count-sum, count-two, bit-sides, count-all_t
 
 -- ---- one word noted
 
-pub noted-none : (k : ℕ) (cs : List ℕ) → k ≡ 0 → cs ≡ noted k cs
+pub noted_none : (k : ℕ) (cs : List ℕ) → k ≡ 0 → cs ≡ noted k cs
 unfolding noted
-noted-none k cs e = rw e
+noted_none k cs e = rw e
 
-pub noted-some : (k : ℕ) (cs : List ℕ) → k ≢ 0 → set cs (k - 1) (get_or cs (k - 1) 0 + 1) ≡ noted k cs
+pub noted_some : (k : ℕ) (cs : List ℕ) → k ≢ 0 → set cs (k - 1) (get_or cs (k - 1) 0 + 1) ≡ noted k cs
 unfolding noted
-noted-some zero cs h = absurd (h refl)
-noted-some (suc b) cs h = rw (sub-one (suc b))
-
--- the place of a block, or a hole's own
-pub place_inside : (w own n : ℕ) → w / 2 ≤ n → own < n → cond (is_hole w) own (pred (w / 2)) < n
-place_inside w own n h l = go (w / 2) refl
-  where
-    go : (k : ℕ) → w / 2 ≡ k → cond (eqb k 0) own (pred k) < n
-    go zero e = l
-    go (suc b) e = rw (eqb-suc-zero b) (omega arith)
-
-pub place-first : (w : ℕ) → cond (is_hole w) 0 (pred (w / 2)) ≡ pred (w / 2)
-place-first w = go (w / 2)
-  where
-    go : (k : ℕ) → cond (eqb k 0) 0 (pred k) ≡ pred k
-    go zero = refl
-    go (suc b) = rw (eqb-suc-zero b)
+noted_some zero cs h = absurd (h refl)
+noted_some (suc b) cs h = rw (sub-one (suc b))
 
 -- a hole adds nothing, wherever it does
 pub noted_mixed : (w own : ℕ) (cs : List ℕ)
@@ -83,17 +68,6 @@ noted-turn ws cs i b h k = rw (add-one i) (omega (arith, noted-at (get_or ws i 0
 
 -- ---- words tested
 
--- two less than a word, modulo 2^32: the words of the blocks come first, those of holes last
-pub less-held : (n w : ℕ) → n ≤ 65536 → w ≤ 4294967295 → (w + 4294967294) % 4294967296 < 2 * n → bit (holds_one n w) ≡ 1
-less-held n w few word h = rw (lt-ltb 1 w (omega arith), le-leb (w / 2) n (omega arith))
-
-pub less_other : (n w : ℕ) → n ≤ 65536 → w ≤ 4294967295 → 2 * n ≤ (w + 4294967294) % 4294967296 → bit (holds_one n w) ≡ 0
-less_other n w few word h = go (dec_lt 1 w)
-  where
-    go : Dec (1 < w) → bit (holds_one n w) ≡ 0
-    go (yes l) = rw (lt-ltb 1 w l, lt-leb (w / 2) n (omega arith))
-    go (no d) = rw (le-ltb 1 w (omega (arith, d)))
-
 -- a word names one of n blocks or none: it holds one of them or is a hole's
 one_or_hole : (n w : ℕ) → bit (holds_one n w) + bit (leb w 1) ≡ bit (leb (w / 2) n)
 one_or_hole n w = go (dec_lt 1 w)
@@ -127,10 +101,6 @@ some-part false (suc a) b = rw (lt-ltb 0 (suc a) (omega arith), lt-ltb 0 (suc a 
 pub some-none : (r : Bool) → r ≡ (r || ltb 0 0)
 some-none true = refl
 some-none false = refl
-
-pub some-bit : (t : Bool) → ltb 0 (bit t) ≡ t
-some-bit true = refl
-some-bit false = refl
 
 -- words that pass their test name blocks of the pool
 pub formed_pool : (n m : ℕ) (ws : List ℕ) → length ws ≡ n → all_to n (λ i. leb (get_or ws i 0 / 2) m) ≡ true → InPool m ws
@@ -169,13 +139,6 @@ all_held l e i h = omega (arith, ltb-true 1 (get_or l i 0) (count-all-at (ltb 1)
 pub all-holes : (l cs : List ℕ) → count (ltb 1) l ≡ 0 → NotedAll l cs cs
 all-holes l cs e = record { long = refl; each = λ b h. omega (arith, holders-held b l, e) }
 
--- which of the two is known
-pub known_held : {t : Bool} → t ≡ true → (held room : Type 0) → Known t held room → held
-known_held e held room k = subst (λ (b : Bool). Known b held room) e k
-
-pub known_room : {t : Bool} → t ≡ false → (held room : Type 0) → Known t held room → room
-known_room e held room k = subst (λ (b : Bool). Known b held room) e k
-
 -- one slot noted
 pub noted_one : (ws cs : List ℕ) (i : ℕ) → i < length ws → NotedFrom ws i 1 cs (noted (get_or ws i 0 / 2) cs)
 noted_one ws cs i h = record {
@@ -192,16 +155,6 @@ pub record Noting (ws before counts : List ℕ) (i : ℕ) : Type 0 where
   pub long : length counts ≡ length before
   pub each : (b : ℕ) → b < length counts → get_or counts b 0 + holders b (drop i ws) ≡ get_or before b 0 + holders b ws
 
--- a word can be noted where those before it are
-pub notable_at : {ws before counts : List ℕ} {i : ℕ} → NotesFit ws before → Noting ws before counts i → Notable (get_or ws i 0) counts
-notable_at {ws} {before} {counts} {i} f v = record {
-  pool = omega (arith, f.pool i, v.long);
-  few = λ b h. omega (arith, v.each b h, f.few b (omega (arith, v.long)));
-}
-
-pub noting_none : (ws before : List ℕ) → Noting ws before before 0
-noting_none ws before = record { within = omega arith; long = refl; each = λ b h. refl }
-
 module _ {ws before counts : List ℕ} {i : ℕ} (t : Noting ws before counts i) where
   -- n more of them
   pub noting_more : {n : ℕ} {after : List ℕ} → NotedFrom ws i n counts after → Noting ws before after (i + n)
@@ -210,9 +163,6 @@ module _ {ws before counts : List ℕ} {i : ℕ} (t : Noting ws before counts i)
     long = r.long ∙ t.long;
     each = λ b h. r.rest b (omega (arith, r.long)) ∙ t.each b (omega (arith, r.long));
   }
-
-  pub noting_all : length ws ≤ i → NotedAll ws before counts
-  noting_all l = record { long = t.long; each = λ b h. omega (arith, t.each b (omega (arith, t.long)), count-end (holds b) ws i l) }
 
 -- ---- in groups
 

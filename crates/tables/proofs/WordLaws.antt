@@ -22,10 +22,10 @@ pub forgot_none : (k : ℕ) (cs : List ℕ) → k ≡ 0 → cs ≡ forgot k cs
 unfolding forgot
 forgot_none k cs e = rw e
 
-pub forgot-some : (k : ℕ) (cs : List ℕ) → k ≢ 0 → set cs (k - 1) (get_or cs (k - 1) 0 - 1) ≡ forgot k cs
+pub forgot_some : (k : ℕ) (cs : List ℕ) → k ≢ 0 → set cs (k - 1) (get_or cs (k - 1) 0 - 1) ≡ forgot k cs
 unfolding forgot
-forgot-some zero cs d = absurd (d refl)
-forgot-some (suc b) cs d = rw (sub-one (suc b))
+forgot_some zero cs d = absurd (d refl)
+forgot_some (suc b) cs d = rw (sub-one (suc b))
 
 pub length-forgot : (k : ℕ) (cs : List ℕ) → length (forgot k cs) ≡ length cs
 unfolding forgot
@@ -57,8 +57,8 @@ module _ (ws cs : List ℕ) (known : TableTrue ws cs) (i : ℕ) (inside : i < le
   old = get_or ws i 0 / 2
 
   -- what `forget` asks
-  pub held-once : 0 < get_or ws i 0 / 2 → 0 < get_or cs (get_or ws i 0 / 2 - 1) 0
-  held-once h = go (get_or ws i 0 / 2) refl h
+  pub held_once : 0 < get_or ws i 0 / 2 → 0 < get_or cs (get_or ws i 0 / 2 - 1) 0
+  held_once h = go (get_or ws i 0 / 2) refl h
     where
       go : (k : ℕ) → get_or ws i 0 / 2 ≡ k → 0 < k → 0 < get_or cs (k - 1) 0
       go zero e h = absurd (omega arith)
@@ -69,9 +69,9 @@ module _ (ws cs : List ℕ) (known : TableTrue ws cs) (i : ℕ) (inside : i < le
   less b h = forgot-at old cs b h (λ e. omega (arith, known.table.each b h, holder-there ws i b inside e))
 
   -- what `note` asks
-  pub few-holders : (b : ℕ) → b < length (forgot (get_or ws i 0 / 2) cs) → get_or (forgot (get_or ws i 0 / 2) cs) b 0 ≤ 65536
+  pub few_holders : (b : ℕ) → b < length (forgot (get_or ws i 0 / 2) cs) → get_or (forgot (get_or ws i 0 / 2) cs) b 0 ≤ 65536
   unfolding old
-  few-holders b h =
+  few_holders b h =
       let k : b < length cs = rw (length-forgot old cs) at h in
       omega (arith, less b k, known.table.each b k, count_most (holds b) ws, known.few)
 

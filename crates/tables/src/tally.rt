@@ -47,6 +47,7 @@ pub fn scan_words(words: &[u32], blocks: usize) -> Option<Counted>
 }
 
 // One more holder of the block of a word; a hole has none.
+#[tactic(auto, using(crate::proofs::TallyLaws::noted_none))]
 pub fn note(counts: &mut [u32], word: u32)
     requires { Notable word counts.old }
     ensures { counts.new ≡ noted (word / 2) counts.old }
@@ -57,6 +58,7 @@ pub fn note(counts: &mut [u32], word: u32)
 }
 
 // The same of a slot that holds a block.
+#[tactic(auto, using(crate::proofs::TallyLaws::noted_some))]
 fn note_held(counts: &mut [u32], word: u32)
     requires { Notable word counts.old × (0 < word / 2) }
     ensures { counts.new ≡ noted (word / 2) counts.old }

@@ -6,6 +6,7 @@ ghost use Rattle.tables.specs.Tables.{TableTrue, Stored};
 use crate::tally::note;
 
 // One holder less of the block of a word; a hole has none.
+#[tactic(auto, using(crate::proofs::WordLaws::forgot_none, crate::proofs::WordLaws::forgot_some))]
 pub fn forget(counts: &mut [u32], word: u32)
     requires { Forgettable word counts.old }
     ensures { counts.new ≡ forgot (word / 2) counts.old }
@@ -15,6 +16,7 @@ pub fn forget(counts: &mut [u32], word: u32)
     }
 }
 
+#[tactic(auto, using(crate::proofs::WordLaws::held_once, crate::proofs::WordLaws::few_holders))]
 pub fn set_word(words: &mut [u32], counts: &mut [u32], i: usize, word: u32)
     requires { TableTrue words.old counts.old × ((i < length words.old) × (word / 2 ≤ length counts.old)) }
     ensures { Stored words.old i word words.new counts.new }

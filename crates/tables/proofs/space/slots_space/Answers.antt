@@ -1,19 +1,9 @@
 use Rattle.std.proofs.Common.{rules, ltb}
 use native.Mathlib.Omega.{arith}
 use Rattle.rules.proofs.CountLaws.{count_most}
-use Rattle.tables.proofs.SpaceLaws.{note_asks, alone-few, slots_are}
+use Rattle.tables.proofs.SpaceLaws.{alone-few, slots_are}
 use Rattle.tables.specs.Tally.{owes_by}
 use Rattle.tables.proofs.space.slots_space.Goals as goal
-
-pub owed_slots-owed-requires : goal.owed_slots-owed-requires
-owed_slots-owed-requires c = c.requires.looked_up
-
-pub forget_all-alone-requires : goal.forget_all-alone-requires
-forget_all-alone-requires c = c.requires.counted
-
-pub note_all-requires : goal.note_all-requires
-note_all-requires c =
-    note_asks c.requires c.forget_all-alone.ensures
 
 pub overflow_add-result : goal.overflow_add-result
 overflow_add-result c =

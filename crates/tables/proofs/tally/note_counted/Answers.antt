@@ -8,6 +8,3 @@ returns-then-held-eq0 c = all-holes _ _ (sym c.requires.1 ∙ c.if-held-eq0.true
 pub note_groups-requires : goal.note_groups-requires
 note_groups-requires c =
     record { fits = c.requires.0; known = all_held c.args.words.now (sym c.requires.1 ∙ c.if-held-words.true) }
-
-pub note_groups-requires-else-held-words : goal.note_groups-requires-else-held-words
-note_groups-requires-else-held-words c = record { fits = c.requires.0; known = tt }

@@ -1,13 +1,13 @@
 // An edit as a value, with the bytes that a WRITE brings.
 
-// Where the bytes of a COPY or a CLONE come from: the places of a file from `off` on.
+/// Where the bytes of a COPY or a CLONE come from: the places of a file from `off` on.
 #[derive(Clone, Copy, Debug, PartialEq, Eq)]
 pub struct Source {
     pub file: usize,
     pub off: usize,
 }
 
-// What an edit does at the places of its region.
+/// What an edit does at the places of its region.
 #[derive(Clone, Copy, Debug)]
 pub enum Act<'a> {
     Write(&'a [u8]),
@@ -17,7 +17,7 @@ pub enum Act<'a> {
     Deallocate,
 }
 
-// The file, the region, from `off` up to `end`, and what is done there.
+/// The file, the region, from `off` up to `end`, and what is done there.
 #[derive(Clone, Copy, Debug)]
 pub struct Edit<'a> {
     pub file: usize,

@@ -1,5 +1,5 @@
 // What becomes of a slot of an edit's region.
-ghost use Rattle.std.specs.Prelude.{◌≡◌, true, cond, ◌*◌, ◌<◌, ◌≤◌, length};
+ghost use Rattle.std.specs.Prelude.{◌≡◌, cond, ◌*◌, ◌<◌, ◌≤◌, length};
 ghost use Rattle.rules.specs.Store.{is_hole};
 ghost use Rattle.rules.specs.Edit.{covers, given, goes_first, owns, stays};
 ghost use Rattle.tables.specs.Lent.{geometry_of};

@@ -1,5 +1,5 @@
 // A file's bytes.
-ghost use Rattle.std.specs.Prelude.{◌≡◌, List, ℕ, ◌+◌, ◌-◌, ◌%◌, ◌<◌, ◌≤◌, min, length};
+ghost use Rattle.std.specs.Prelude.{◌≡◌, List, ℕ, ◌+◌, ◌-◌, ◌%◌, ◌<◌, min, length};
 ghost use Rattle.tables.specs.Lent.{geometry_of};
 ghost use Rattle.rules.specs.Store.{bytes_from};
 ghost use Rattle.store.specs.Readable.{Readable, InSlot};

@@ -5,8 +5,7 @@ ghost use Rattle.xdr.specs.Layout.{boolean};
 ghost use Rattle.xdr.specs.Reading.{parsed, itself};
 ghost use Rattle.xdr.specs.declared.bytes.Span.{Span};
 
-use crate::bytes::Span;
-use crate::write::padding;
+use crate::bytes::{Span, padding};
 
 // Bytes, and the place of the next one to read. The place may lie past their end.
 #[derive(Clone, Copy)]

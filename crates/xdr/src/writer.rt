@@ -4,7 +4,7 @@ ghost use Rattle.xdr.specs.Bytes.{splice};
 ghost use Rattle.xdr.specs.Encode.{u32, u64, bool, opaque, opaque_size, concat_map, array};
 ghost use Rattle.xdr.specs.Writing.{Wrote, WroteOver, HasRoom};
 
-use crate::write::padding;
+use crate::bytes::padding;
 
 #[tactic(auto, unfolding(crate::specs::Bytes::splice))]
 fn store(out: &mut [u8], at: usize, d: &[u8])

@@ -26,7 +26,7 @@ pub struct Edit<'a> {
     pub act: Act<'a>,
 }
 
-// A slot of the region: its index in the file, its word before the edit and the planned one.
+/// A slot of the region: its index in the file, its word before the edit and the planned one.
 #[derive(Clone, Copy, Debug, PartialEq, Eq)]
 pub struct Slot {
     pub index: usize,
@@ -34,7 +34,7 @@ pub struct Slot {
     pub new: u32,
 }
 
-// What becomes of a slot of the region.
+/// What becomes of a slot of the region.
 #[derive(Clone, Copy, Debug, PartialEq, Eq)]
 pub enum Kind {
     // It gets an unshared block.
@@ -50,7 +50,7 @@ pub enum Kind {
     Stays,
 }
 
-// Which slots a pass changes.
+/// Which slots a pass changes.
 #[derive(Clone, Copy, Debug, PartialEq, Eq)]
 pub enum Pass {
     // Those that become holes.

@@ -18,7 +18,7 @@ fn slot_count(g: Geometry, off: usize, end: usize) -> usize
     end.div_ceil(g.block_size) - off / g.block_size
 }
 
-// Applies e to the store. Refuses, and changes nothing, exactly if the store would then need more blocks than there are.
+/// Applies e to the store. Refuses, and changes nothing, exactly if the store would then need more blocks than there are.
 pub fn apply(
     g: Geometry,
     sizes: &mut [u64],

@@ -60,7 +60,7 @@ fn pass(
     Ok(())
 }
 
-// Plans e in place and saves the words of its slots in `old`. Where the plan does not fit the pool, the words go back.
+/// Plans e in place and saves the words of its slots in `old`. Where the plan does not fit the pool, the words go back.
 pub fn plan(
     g: Geometry,
     words: &mut [u32],

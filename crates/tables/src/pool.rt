@@ -9,7 +9,7 @@ use crate::counted::Counted;
 use crate::groups::{Group, all_where, count_where, group_at, group_where};
 use crate::tally::block_or;
 
-// How many blocks have a holder: all but the free ones.
+/// How many blocks have a holder: all but the free ones.
 pub fn used_blocks(counts: &[u32]) -> usize
     requires { length counts.now ≤ 65536 }
     ensures { result ≡ count (ltb 0) counts.now }
@@ -17,7 +17,7 @@ pub fn used_blocks(counts: &[u32]) -> usize
     counts.len() - count_where(counts, |holders| holders == 0)
 }
 
-// Whether a slot with this word is a hole or holds a shared block. A hole reads a count too: nothing is guessed.
+/// Whether a slot with this word is a hole or holds a shared block. A hole reads a count too: nothing is guessed.
 pub fn takes_block(word: u32, counts: &[u32]) -> bool
     requires { (word / 2 ≤ length counts.now) × (0 < length counts.now) }
     ensures { result ≡ takes_by counts.now word }
@@ -61,7 +61,7 @@ fn owed_from(words: &[u32], counts: &[u32], i: usize) -> (usize, usize)
     (Group::SIZE, owed_each(group, counts))
 }
 
-// How many slots owe a block.
+/// How many slots owe a block.
 pub fn owed_slots(words: &[u32], counts: &[u32]) -> usize
     requires { InTable words.now counts.now }
     ensures { result ≡ count (owes_by counts.now) words.now }
@@ -76,8 +76,8 @@ pub fn owed_slots(words: &[u32], counts: &[u32]) -> usize
     sum
 }
 
-// The same where that is counted of the slots, and so many blocks are used. Without a reserved slot
-// nothing is owed. Where each slot that holds a block holds it alone, reserved holes are.
+/// The same where that is counted of the slots, and so many blocks are used. Without a reserved slot
+/// nothing is owed. Where each slot that holds a block holds it alone, reserved holes are.
 pub fn owed_of(counted: Counted, used: usize, words: &[u32], counts: &[u32]) -> usize
     requires { OwedKnown counted.held used counted.reserved words.now counts.now }
     ensures { result ≡ count (owes_by counts.now) words.now }
@@ -91,9 +91,9 @@ pub fn owed_of(counted: Counted, used: usize, words: &[u32], counts: &[u32]) -> 
     owed_slots(words, counts)
 }
 
-// Whether used and owed blocks fit the pool, where that is counted of the slots. They are counted only
-// where they may not fit: nothing is owed without a reserved slot, and they are never more than the slots that hold a block and those
-// that are reserved.
+/// Whether used and owed blocks fit the pool, where that is counted of the slots. They are counted only
+/// where they may not fit: nothing is owed without a reserved slot, and they are never more than the slots that hold a block and those
+/// that are reserved.
 pub fn fits_of(counted: Counted, words: &[u32], counts: &[u32]) -> bool
     requires { RoomKnown counted.held counted.reserved words.now counts.now }
     ensures { result ≡ fits_pool (length counts.now) words.now }
@@ -108,7 +108,7 @@ pub fn fits_of(counted: Counted, words: &[u32], counts: &[u32]) -> bool
     used + owed_of(counted, used, words, counts) <= counts.len()
 }
 
-// The same, counting those slots.
+/// The same, counting those slots.
 pub fn fits_pool(words: &[u32], counts: &[u32]) -> bool
     requires { TableTrue words.now counts.now }
     ensures { result ≡ fits_pool (length counts.now) words.now }
@@ -137,8 +137,8 @@ fn held_from(counts: &[u32], block: usize) -> usize
     1
 }
 
-// The first block without a holder, which is not below `from`; their number where each has one. No block is looked at more than once
-// in its group and once alone.
+/// The first block without a holder, which is not below `from`; their number where each has one. No block is looked at more than once
+/// in its group and once alone.
 pub fn lowest_free(counts: &[u32], from: usize) -> usize
     requires { from ≤ first_zero counts.now }
     ensures { result ≡ first_zero counts.now }

@@ -52,7 +52,7 @@ fn test_tables(view: View<'_>, counts: &mut [u32]) -> Option<Counted>
     Some(Counted { held, reserved })
 }
 
-// Whether the store is sound. Nothing is counted that need not be.
+/// Whether the store is sound. Nothing is counted that need not be.
 pub fn judge_tables(view: View<'_>, counts: &mut [u32]) -> bool
     requires { counts.old ≡ replicate view.geometry.blocks 0 }
     ensures { TableJudged (geometry_of view.entry.geometry) (view_store view.entry) result counts.new }
@@ -90,7 +90,7 @@ fn survey_with<const N: usize>(view: View<'_>) -> Result<Survey, Refusal>
     survey_in(view, &mut counts[..view.geometry.blocks])
 }
 
-// The survey of tables that have their lengths. Pools of few blocks have smaller tables.
+/// The survey of tables that have their lengths. Pools of few blocks have smaller tables.
 pub fn survey_tables(view: View<'_>) -> Result<Survey, Refusal>
     ensures { SurveyPromise (geometry_of view.entry.geometry) (view_store view.entry) (refusal_told result) (used_told result) (owed_told result) }
 {
@@ -101,7 +101,7 @@ pub fn survey_tables(view: View<'_>) -> Result<Survey, Refusal>
     }
 }
 
-// The used and owed blocks of a sound store, or a refusal.
+/// The used and owed blocks of a sound store, or a refusal.
 #[tactic(auto, unfolding(rules::specs::Calls::make_refusal, rules::specs::Calls::store_refusal, rules::specs::Calls::used_count, rules::specs::Calls::owed_count))]
 pub fn survey(dimensions: Dimensions, seen: Seen<'_>) -> Result<Survey, Refusal>
     ensures { SurveyPromise (dimensions_of dimensions) (seen_store seen.entry) (refusal_told result) (used_told result) (owed_told result) }

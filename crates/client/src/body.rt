@@ -13,7 +13,7 @@ use crate::reply::{
 use wire::Operation;
 use xdr::Reader;
 
-// The piece of READ_PLUS at the reader's place.
+/// The piece of READ_PLUS at the reader's place.
 #[tactic(auto, using(crate::proofs::ReadLaws::piece_by), unfolding(xdr::specs::Decode::opaque_up_to))]
 pub fn next_piece(r: &mut Reader<'_>) -> Option<Piece>
     ensures value { parsed (of_piece r.old.bytes.now) result r.new.at ≡ piece_layout.read r.old.bytes.now r.old.at }
@@ -58,7 +58,7 @@ fn copied_body(r: &mut Reader<'_>) -> Option<Body>
     }))
 }
 
-// The body of an operation that answers OK. One that is not served has none that can be read.
+/// The body of an operation that answers OK. One that is not served has none that can be read.
 #[tactic(auto, using(crate::proofs::ReadLaws::from_end, crate::proofs::ReadLaws::from_fault), unfolding(xdr::specs::Decode::fixed, xdr::specs::Decode::opaque_up_to, xdr::specs::Decode::array_up_to))]
 pub fn ok_body(r: &mut Reader<'_>, number: u32) -> Option<Body>
     ensures value { parsed (of_body r.old.bytes.now) result r.new.at ≡ body_by number 0 r.old.bytes.now r.old.at }

@@ -8,18 +8,18 @@ use crate::result::read_result;
 use wire::Operation;
 use xdr::{Reader, Span};
 
-// The status of a reply that is one to the request, and the place of its first result.
+/// The status of a reply that is one to the request, and the place of its first result.
 #[derive(Clone, Copy, Debug, PartialEq, Eq)]
 pub struct Opened {
     pub status: u32,
     pub first: usize,
 }
 
-// The reply is not one to the request.
+/// The reply is not one to the request.
 #[derive(Clone, Copy, Debug, PartialEq, Eq)]
 pub struct NotOpened;
 
-// Status, tag and number of results.
+/// Status, tag and number of results.
 #[derive(Clone, Copy, Debug, PartialEq, Eq)]
 pub struct Head {
     pub status: u32,
@@ -63,7 +63,7 @@ fn results_good(r: &mut Reader<'_>, count: u32, status: u32, numbers: &[u32]) ->
     status != 0 || count == numbers.len()
 }
 
-// Opens the reply to a request with this tag and these operation numbers.
+/// Opens the reply to a request with this tag and these operation numbers.
 #[tactic(auto, using(crate::proofs::OpenLaws::opened_is, crate::proofs::OpenLaws::same_tag))]
 pub fn open_reply(tag: &[u8], numbers: &[u32], reply: &[u8]) -> Result<Opened, NotOpened>
     ensures { OpenPromise tag.now numbers.now reply.now result }

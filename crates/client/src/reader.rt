@@ -17,7 +17,7 @@ pub struct ReplyReader<'a> {
 }
 
 impl<'a> ReplyReader<'a> {
-    // A reader at the first result of a reply that was opened.
+    /// A reader at the first result of a reply that was opened.
     pub fn new(reply: &'a [u8], opened: Opened) -> Self
         ensures { (result.reader.bytes ≡ reply.entry) × (result.reader.at ≡ opened.first) }
     {
@@ -29,7 +29,7 @@ impl<'a> ReplyReader<'a> {
         }
     }
 
-    // The result at its place, or nothing behind the last one. It then stands behind the result, or where the fault is.
+    /// The result at its place, or nothing behind the last one. It then stands behind the result, or where the fault is.
     pub fn next(&mut self) -> Result<Option<OpResult>, Fault>
         ensures value { of_step self.old.reader.bytes.now result self.new.reader.at ≡ step self.old.reader.bytes.now self.old.reader.at }
         ensures done { result ≡ Ok None → self.new.reader.at ≡ self.old.reader.at }
@@ -38,7 +38,7 @@ impl<'a> ReplyReader<'a> {
         step(&mut self.reader)
     }
 
-    // A reader of the same reply at a place that was told.
+    /// A reader of the same reply at a place that was told.
     pub fn moved(self, place: usize) -> Self
         ensures { (result.reader.bytes ≡ self.entry.reader.bytes) × (result.reader.at ≡ place) }
     {
@@ -50,14 +50,14 @@ impl<'a> ReplyReader<'a> {
         }
     }
 
-    // The bytes of a span, a part of the reply.
+    /// The bytes of a span, a part of the reply.
     pub fn part(self, d: Span) -> &'a [u8]
         ensures { PartPromise self.entry.reader.bytes d result }
     {
         xdr::part(self.reader.bytes, d)
     }
 
-    // The piece of READ_PLUS at its place. It then stands behind the piece, or where the fault is.
+    /// The piece of READ_PLUS at its place. It then stands behind the piece, or where the fault is.
     pub fn piece(&mut self) -> Option<Piece>
         ensures value { parsed (of_piece self.old.reader.bytes.now) result self.new.reader.at ≡ piece_layout.read self.old.reader.bytes.now self.old.reader.at }
         ensures reply { self.new.reader.bytes ≡ self.old.reader.bytes }

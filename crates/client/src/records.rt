@@ -20,7 +20,7 @@ pub struct OpRecord {
 }
 
 impl OpRecord {
-    // Numbers of a record.
+    /// Numbers of a record.
     pub const NUMBERS: usize = 10;
 }
 
@@ -114,7 +114,7 @@ fn operation_of(r: OpRecord) -> Option<Operation>
     }
 }
 
-// A request written from a tag and records.
+/// A request written from a tag and records.
 #[tactic(auto, using(crate::proofs::RecordLaws::no_records, crate::proofs::RecordLaws::many_records, crate::proofs::RecordLaws::wrong_record, crate::proofs::RecordLaws::left_none))]
 pub fn write_records(tag: &[u8], ns: &[u64], lent: &[u8], out: &mut [u8]) -> Result<usize, Refusal>
     ensures { WritePromise tag.now (given_records lent.now ns.now) out.old result out.new }

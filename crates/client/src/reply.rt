@@ -1,14 +1,14 @@
 // A reply as read: results, their bodies, pieces of READ_PLUS. Bytes stay where they are in the reply, as spans.
 use xdr::Span;
 
-// GETATTR's: the bitmap's words, and the values.
+/// GETATTR's: the bitmap's words, and the values.
 #[derive(Clone, Copy, Debug, PartialEq, Eq)]
 pub struct AttrsBody {
     pub bitmap: Span,
     pub values: Span,
 }
 
-// READ's.
+/// READ's.
 #[derive(Clone, Copy, Debug, PartialEq, Eq)]
 pub struct DataBody {
     pub eof: bool,
@@ -31,7 +31,7 @@ pub struct CopiedBody {
     pub synchronous: bool,
 }
 
-// READ_PLUS's: so many pieces, the first at place `first`.
+/// READ_PLUS's: so many pieces, the first at place `first`.
 #[derive(Clone, Copy, Debug, PartialEq, Eq)]
 pub struct PiecesBody {
     pub eof: bool,
@@ -45,7 +45,7 @@ pub struct SoughtBody {
     pub offset: u64,
 }
 
-// The body of a result. It is empty where the operation failed, or answers OK alone.
+/// The body of a result. It is empty where the operation failed, or answers OK alone.
 #[derive(Clone, Copy, Debug, PartialEq, Eq)]
 pub enum Body {
     Empty,
@@ -59,7 +59,7 @@ pub enum Body {
 }
 
 impl Body {
-    // Bytes of a verifier, the number of callback ids, and the highest content type of a piece.
+    /// Bytes of a verifier, the number of callback ids, and the highest content type of a piece.
     pub const VERIFIER: usize = 8;
 
     pub const CALLBACKS: u32 = 0;
@@ -74,7 +74,7 @@ pub struct OpResult {
     pub body: Body,
 }
 
-// No result stands at a place. The reader tells the place of the fault.
+/// No result stands at a place. The reader tells the place of the fault.
 #[derive(Clone, Copy, Debug, PartialEq, Eq)]
 pub struct Fault;
 
@@ -90,7 +90,7 @@ pub struct HolePiece {
     pub length: u64,
 }
 
-// A piece of READ_PLUS.
+/// A piece of READ_PLUS.
 #[derive(Clone, Copy, Debug, PartialEq, Eq)]
 pub enum Piece {
     Data(DataPiece),

@@ -10,7 +10,7 @@ use crate::size::ops_size;
 use wire::Operation;
 use xdr::Writer;
 
-// Why a request is not written: the buffer is too short; what is given can't be written.
+/// Why a request is not written: the buffer is too short; what is given can't be written.
 #[derive(Clone, Copy, Debug, PartialEq, Eq)]
 pub enum Refusal {
     ShortBuffer = 9,
@@ -18,7 +18,7 @@ pub enum Refusal {
 }
 
 impl Refusal {
-    // Limits: operations; bytes of a tag, of a handle, of a bitmap's words, and of a request.
+    /// Limits: operations; bytes of a tag, of a handle, of a bitmap's words, and of a request.
     pub const MAX_OPS: usize = 12;
 
     pub const MAX_TAG: usize = 1024;
@@ -29,7 +29,7 @@ impl Refusal {
 
     pub const MAX_REQUEST: usize = 65536;
 
-    // The minor version.
+    /// The minor version.
     pub const MINOR: u32 = 2;
 
     pub fn number(self) -> u32
@@ -51,7 +51,7 @@ fn put_header(w: &mut Writer<'_>, tag: &[u8], count: u32)
     w.u32(count);
 }
 
-// The operations, with the data that their spans are of. Answers how many bytes were written.
+/// The operations, with the data that their spans are of. Answers how many bytes were written.
 #[tactic(auto, using(crate::proofs::RequestLaws::refusals))]
 pub fn write_request(
     tag: &[u8],

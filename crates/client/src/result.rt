@@ -8,7 +8,7 @@ use crate::body::ok_body;
 use crate::reply::{Body, Fault, OpResult};
 use xdr::Reader;
 
-// The result at the reader's place. Where its status is not OK, its body is empty.
+/// The result at the reader's place. Where its status is not OK, its body is empty.
 #[tactic(auto, unfolding(rules::specs::Client::result))]
 pub fn read_result(r: &mut Reader<'_>) -> Option<OpResult>
     ensures value { parsed (of_result r.old.bytes.now) result r.new.at ≡ result_at r.old.bytes.now r.old.at }
@@ -28,7 +28,7 @@ pub fn read_result(r: &mut Reader<'_>) -> Option<OpResult>
     })
 }
 
-// What is handed out at the reader's place: a result, behind which the reader then stands; or nothing more.
+/// What is handed out at the reader's place: a result, behind which the reader then stands; or nothing more.
 #[tactic(auto, unfolding(rules::specs::Client::step))]
 pub fn step(r: &mut Reader<'_>) -> Result<Option<OpResult>, Fault>
     ensures value { of_step r.old.bytes.now result r.new.at ≡ step r.old.bytes.now r.old.at }

@@ -84,7 +84,7 @@ fn op_size(lent: &[u8], o: Operation) -> Option<usize>
     }
 }
 
-// How long at most twelve operations are.
+/// How long at most twelve operations are.
 #[tactic(auto, using(crate::proofs::RequestLaws::left_writable, crate::proofs::RequestLaws::left_length), unfolding(crate::specs::Given::op_size))]
 pub fn ops_size(lent: &[u8], ops: &[Operation]) -> Option<usize>
     requires { length ops.now ≤ 12 }

@@ -16,7 +16,7 @@ const NOT_OPENED: u32 = 10;
 
 const NO_STATUS: u64 = 4294967295;
 
-// Writes a request: 0, or refusal 9 or 11.
+/// Writes a request: 0, or refusal 9 or 11.
 #[unsafe(no_mangle)]
 pub extern "C" fn client_write_request(
     tag: &[u8],
@@ -40,7 +40,7 @@ pub extern "C" fn client_write_request(
     }
 }
 
-// Opens a reply: 0, or refusal 10. `told` gets its status and the place of its first result.
+/// Opens a reply: 0, or refusal 10. `told` gets its status and the place of its first result.
 #[unsafe(no_mangle)]
 pub extern "C" fn client_open_reply(
     tag: &[u8],
@@ -104,7 +104,7 @@ fn body_numbers(body: Body) -> [u64; 7]
     }
 }
 
-// The result at a place of a reply: 0, 1 behind the last, or 10. `told` gets its numbers.
+/// The result at a place of a reply: 0, 1 behind the last, or 10. `told` gets its numbers.
 #[unsafe(no_mangle)]
 pub extern "C" fn client_next_result(reply: &[u8], at: u64, told: &mut [u64; 10]) -> u32
     ensures { StepPromise reply.now at result told.new }
@@ -131,7 +131,7 @@ pub extern "C" fn client_next_result(reply: &[u8], at: u64, told: &mut [u64; 10]
     }
 }
 
-// The piece at a place of a reply: 0 or 10.
+/// The piece at a place of a reply: 0 or 10.
 #[unsafe(no_mangle)]
 pub extern "C" fn client_next_piece(reply: &[u8], at: u64, told: &mut [u64; 5]) -> u32
     ensures { PiecePromise reply.now at result told.new }

@@ -1,16 +1,18 @@
 -- An edit's two ways out, and the numbers that the code computes.
-use Prim.Native.Nat.{ℕ, ◌+◌, ◌*◌, ◌≤◌, ◌<◌}
+use Prim.Native.Nat.{ℕ, ◌+◌, ◌/◌, ◌%◌, ◌<◌, min}
 use mathlib.Core.Path.{◌≡◌, refl, sym, ◌∙◌}
 use mathlib.Core.Bool.{Bool, true, false}
 use mathlib.Core.List.{List}
+use native.Mathlib.Nat.{le_refl, mul-le-mul_right}
+use native.Mathlib.Decide.{dec_lt}
 use native.Mathlib.Omega.{arith}
 use borrow.Author.Tests.{le-leb}
 use lib.ListN.{length}
 use Rattle.rules.specs.Lists.{ceil_div}
-use Rattle.rules.specs.Store.{Geometry, good_geometry, Store, need, fits_pool}
-use Rattle.rules.specs.Edit.{first_slot, slot_count}
-use Rattle.rules.proofs.GeometryLaws.{Good, good, block-pos, file-most}
-use Rattle.rules.proofs.SoundStore.{Sound, first-before, slots-fit}
+use Rattle.rules.specs.Store.{Geometry, Store, need, fits_pool}
+use Rattle.rules.proofs.GeometryLaws.{Good, good, block-pos}
+use Rattle.std.proofs.lemmas.Grind.{div_ceil_times}
+use Rattle.rules.proofs.SoundStore.{ceil_le, le_ceil, Sound}
 use Rattle.rules.proofs.SoundLaws.{sound-facts}
 use Rattle.tables.specs.Tables.{TableTrue}
 use Rattle.store.specs.Plan.{Planned}
@@ -57,23 +59,11 @@ module _ {g : Geometry} {st : Store} {cs : List ℕ} {f : ℕ} (k : EditKnown g 
     plan-done fits s m =
         edit_done_lem g st edit _ cs' (judged-is ∙ fits) (rw is s) (rw is (rw (← p.answer, fits) at p.words_are)) (rw is m) p.counted
 
--- numbers that the code computes
-pub record RegionRoom (g : Geometry) (off end : ℕ) : Type 0 where
-  pub pos : 0 < g.B
-  pub block_most : g.B ≤ 4096
-  pub slots_most : g.S ≤ 1024
-  pub end_most : end ≤ 4194304
-  pub slots : first_slot g off + slot_count g off end ≤ g.S
-  pub ordered : first_slot g off ≤ ceil_div end g.B
+-- ---- std's division that rounds up is the rules'
 
-pub slots-room : (g : Geometry) (off end : ℕ) → good_geometry g ≡ true → off < end → end ≤ g.S * g.B → RegionRoom g off end
-slots-room g off end h some fits =
-    let o = good g h in
-    record {
-      pos = block-pos o;
-      block_most = o.block_most;
-      slots_most = o.slots_most;
-      end_most = omega (arith, file-most g o);
-      slots = slots-fit g (block-pos o) off end some fits;
-      ordered = first-before g (block-pos o) off end some fits;
-    }
+pub ceil_is : (a b : ℕ) → 0 < b → a / b + min 1 (a % b) ≡ ceil_div a b
+ceil_is a b p = go (dec_lt (ceil_div a b) (a / b + min 1 (a % b)))
+  where
+    go : Dec (ceil_div a b < a / b + min 1 (a % b)) → a / b + min 1 (a % b) ≡ ceil_div a b
+    go (yes l) = absurd (omega (arith, div_ceil_times a b p, mul-le-mul_right b l, le_ceil p a (ceil_div a b) (le_refl _)))
+    go (no d) = omega (arith, d, ceil_le p a (a / b + min 1 (a % b)) (div_ceil_times a b p).0)

@@ -1,5 +1,4 @@
 pub mod PartLaws
-pub mod RangeLaws
 pub mod OwnLaws
 pub mod StoreLaws
 pub mod PlaceLaws

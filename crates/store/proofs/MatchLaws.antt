@@ -9,8 +9,8 @@ use native.Mathlib.Omega.{arith}
 use Rattle.rules.specs.Store.{Geometry, Store, is_hole, size_of}
 use Rattle.rules.specs.Edit.{cleared, owns, covers, from_holes, clears, kind_of}
 use Rattle.rules.specs.Read.{is_hole_at}
-use Rattle.rules.proofs.GeometryLaws.{Good, good, block-pos, file-most}
-use Rattle.rules.proofs.SoundStore.{div_le, div_ge, div_lt, slot_bytes_lem, slots-fit}
+use Rattle.rules.proofs.GeometryLaws.{Good, good, block-pos}
+use Rattle.rules.proofs.SoundStore.{div_le, div_ge, div_lt, slot_bytes_lem}
 use Rattle.rules.proofs.WriteLaws.{covered-is}
 use Rattle.rules.proofs.CopyLaws.{from_all, from_one}
 use Rattle.xdr.proofs.BoolLaws.{and_false}
@@ -18,7 +18,6 @@ use Rattle.store.specs.declared.edit.Source.{Source}
 use Rattle.store.specs.declared.edit.Edit as CodeEdit
 use Rattle.store.specs.Readable.{hole_in}
 use Rattle.store.specs.Planner.{Others, CopySlot, copy_from, MatchedIs, CopyKindIs}
-use Rattle.store.proofs.RangeLaws.{slot_most}
 
 module _ {g : Geometry} {e : CodeEdit.Edit} {s : Source} {ws : List ℕ} {k : ℕ} (h : CopySlot g e s ws k) where
   pub copy-good : Good g
@@ -30,13 +29,6 @@ module _ {g : Geometry} {e : CodeEdit.Edit} {s : Source} {ws : List ℕ} {k : �
   -- the slot has a byte in the region
   pub copy_touches : (e.off < k * g.B + g.B) × (k * g.B < e.end)
   copy_touches = slot_bytes_lem g pos e.off e.end h.slot.edit.some h.slot.edit.fits k h.slot.from h.slot.to
-
-  pub copy-below : k < g.S
-  copy-below = omega (arith, h.slot.to, slots-fit g pos e.off e.end h.slot.edit.some h.slot.edit.fits)
-
-  -- numbers that the code computes
-  pub copy-most : (s.off + (e.end - e.off) ≤ 4194304) × (k * g.B + g.B ≤ 4194304)
-  copy-most = (omega (arith, h.source.fits, file-most g copy-good), slot_most g k h.slot.edit.geometry copy-below)
 
   -- and in a store where the other files have these words
   hole-seen : (st : Store) → Others g e.file ws st.words → (i : ℕ) → i < s.off + (e.end - e.off) → is_hole_at g st s.file i ≡ hole_in g ws s.file i

@@ -16,7 +16,7 @@ fn copy_over(block: &mut [u8], source: &[u8])
     block.copy_from_slice(source);
 }
 
-// The `size` bytes at `from` over those at `to`: the target's part of the memory is lent on to the leaf.
+/// The `size` bytes at `from` over those at `to`: the target's part of the memory is lent on to the leaf.
 #[tactic(auto, unfolding(xdr::specs::Bytes::splice))]
 pub fn copy_block(mem: &mut [u8], from: usize, to: usize, size: usize)
     requires inside { (from + size ≤ length mem.old) × (to + size ≤ length mem.old) }
@@ -40,8 +40,8 @@ fn block_start(g: Geometry, w: u32) -> usize
     ((w / 2) as usize - 1) * g.block_size
 }
 
-// Gives the block of the slot's new word the old slot's bytes: it is that block, or becomes zeros for a hole, or a copy. Answers where it
-// starts.
+/// Gives the block of the slot's new word the old slot's bytes: it is that block, or becomes zeros for a hole, or a copy. Answers where it
+/// starts.
 pub fn fresh_block(g: Geometry, mem: &mut [u8], slot: Slot) -> usize
     requires { Backed (geometry_of g) (length mem.old) slot.old slot.new }
     ensures start { Starts (geometry_of g) slot.new result }
@@ -59,7 +59,7 @@ pub fn fresh_block(g: Geometry, mem: &mut [u8], slot: Slot) -> usize
     to
 }
 
-// The slot's share of a WRITE of d at `off`.
+/// The slot's share of a WRITE of d at `off`.
 pub fn write_slot(g: Geometry, mem: &mut [u8], slot: Slot, off: usize, d: &[u8])
     requires { Touched (geometry_of g) (length mem.old) slot.old slot.new slot.index off (off + length d.now) }
     ensures { mem.new ≡ store_slot (geometry_of g) (within off (off + length d.now)) (λ p. get_or d.now (p - off) 0)
@@ -72,7 +72,7 @@ pub fn write_slot(g: Geometry, mem: &mut [u8], slot: Slot, off: usize, d: &[u8])
     mem[to..to + (b - a)].copy_from_slice(&d[a - off..b - off]);
 }
 
-// The slot's share of zeroing the places from `off` up to `end`.
+/// The slot's share of zeroing the places from `off` up to `end`.
 pub fn zero_slot(g: Geometry, mem: &mut [u8], slot: Slot, off: usize, end: usize)
     requires { Touched (geometry_of g) (length mem.old) slot.old slot.new slot.index off end }
     ensures { mem.new ≡ store_slot (geometry_of g) (within off end) (λ i. 0) slot.old slot.new mem.old slot.index }

@@ -43,7 +43,7 @@ fn copy_bytes(g: Geometry, words: &[u32], mem: &mut [u8], from: Source, to: usiz
     }
 }
 
-// The slot's share of the COPY e from that source.
+/// The slot's share of the COPY e from that source.
 pub fn copy_slot(g: Geometry, words: &[u32], mem: &mut [u8], e: &Edit<'_>, from: Source, slot: Slot)
     requires { SlotCopy (geometry_of g) words.now mem.old from.file from.off slot.old slot.new slot.index e.now.off e.now.end }
     ensures { (sizes : List ℕ)

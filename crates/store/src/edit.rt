@@ -1,13 +1,13 @@
 // An edit as a value, with the bytes that a WRITE brings.
 
-// Where the bytes of a COPY or a CLONE come from: the places of a file from `off` on.
+/// Where the bytes of a COPY or a CLONE come from: the places of a file from `off` on.
 #[derive(Clone, Copy, Debug, PartialEq, Eq)]
 pub struct Source {
     pub file: usize,
     pub off: usize,
 }
 
-// What an edit does at the places of its region.
+/// What an edit does at the places of its region.
 #[derive(Clone, Copy, Debug)]
 pub enum Act<'a> {
     Write(&'a [u8]),
@@ -17,7 +17,7 @@ pub enum Act<'a> {
     Deallocate,
 }
 
-// The file, the region, from `off` up to `end`, and what is done there.
+/// The file, the region, from `off` up to `end`, and what is done there.
 #[derive(Clone, Copy, Debug)]
 pub struct Edit<'a> {
     pub file: usize,
@@ -26,7 +26,7 @@ pub struct Edit<'a> {
     pub act: Act<'a>,
 }
 
-// A slot of the region: its index in the file, its word before the edit and the planned one.
+/// A slot of the region: its index in the file, its word before the edit and the planned one.
 #[derive(Clone, Copy, Debug, PartialEq, Eq)]
 pub struct Slot {
     pub index: usize,
@@ -34,7 +34,7 @@ pub struct Slot {
     pub new: u32,
 }
 
-// What becomes of a slot of the region.
+/// What becomes of a slot of the region.
 #[derive(Clone, Copy, Debug, PartialEq, Eq)]
 pub enum Kind {
     // It gets an unshared block.
@@ -50,7 +50,7 @@ pub enum Kind {
     Stays,
 }
 
-// Which slots a pass changes.
+/// Which slots a pass changes.
 #[derive(Clone, Copy, Debug, PartialEq, Eq)]
 pub enum Pass {
     // Those that become holes.

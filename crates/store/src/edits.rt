@@ -1,5 +1,5 @@
 // The one call that edits: the plan, and where it fits the pool the bytes and the size.
-ghost use Rattle.std.specs.Prelude.{◌≡◌, true, ◌*◌, ◌<◌, ◌≤◌, ◌-◌, is_ok};
+ghost use Rattle.std.specs.Prelude.{◌≡◌, ◌*◌, ◌<◌, ◌≤◌, ◌-◌, is_ok};
 ghost use Rattle.rules.specs.Edit.{slot_count, edited};
 ghost use Rattle.store.specs.EditPromises.{EditPromise};
 ghost use Rattle.store.specs.Edits.{Applies, edit_from};
@@ -15,11 +15,10 @@ fn slot_count(g: Geometry, off: usize, end: usize) -> usize
     requires { (off < end) × (end ≤ (geometry_of g).S * (geometry_of g).B) }
     ensures { result ≡ slot_count (geometry_of g) off end }
 {
-    (end + (g.block_size - 1)) / g.block_size - off / g.block_size
+    end.div_ceil(g.block_size) - off / g.block_size
 }
 
-// Applies e to the store. Refuses, and changes nothing, exactly if the store would then need more blocks
-// than there are.
+/// Applies e to the store. Refuses, and changes nothing, exactly if the store would then need more blocks than there are.
 pub fn apply(
     g: Geometry,
     sizes: &mut [u64],

@@ -42,7 +42,7 @@ fn put_slot(g: Geometry, words: &[u32], mem: &mut [u8], e: &Edit<'_>, size: usiz
     }
 }
 
-// The bytes of e in the slots of its region, whose words before it were `old`; its file had that size.
+/// The bytes of e in the slots of its region, whose words before it were `old`; its file had that size.
 pub fn put_bytes(g: Geometry, words: &[u32], mem: &mut [u8], e: &Edit<'_>, size: usize, old: &[u32])
     requires { (st : Store) × Fills (geometry_of g) st e.now size old.now words.now mem.old }
     ensures { (st : Store) → Fills (geometry_of g) st e.now size old.now words.now mem.old

@@ -1,5 +1,5 @@
 // What becomes of a slot of an edit's region.
-ghost use Rattle.std.specs.Prelude.{◌≡◌, true, cond, ◌*◌, ◌<◌, ◌≤◌, length};
+ghost use Rattle.std.specs.Prelude.{◌≡◌, cond, ◌*◌, ◌<◌, ◌≤◌, length};
 ghost use Rattle.rules.specs.Store.{is_hole};
 ghost use Rattle.rules.specs.Edit.{covers, given, goes_first, owns, stays};
 ghost use Rattle.tables.specs.Lent.{geometry_of};
@@ -57,7 +57,7 @@ fn copy_kind(g: Geometry, words: &[u32], e: &Edit<'_>, s: Source, size: usize, k
     Kind::Owns
 }
 
-// What becomes of slot k of e's file, whose size is `size`; w is the slot's word before the edit. Of `words` only those of other files count.
+/// What becomes of slot k of e's file, whose size is `size`; w is the slot's word before the edit. Of `words` only those of other files count.
 pub fn kind_of(g: Geometry, words: &[u32], e: &Edit<'_>, size: usize, k: usize, w: u32) -> Kind
     requires { SlotOf (geometry_of g) e.now k × (length words.now ≡ (geometry_of g).F * (geometry_of g).S) }
     ensures { KindIs (geometry_of g) e.now size words.now k w (kind_from result) }
@@ -83,7 +83,7 @@ impl Kind {
 }
 
 impl Pass {
-    // Whether the pass changes a slot of that kind.
+    /// Whether the pass changes a slot of that kind.
     pub fn takes(self, kind: Kind) -> bool
         ensures { result ≡ in_pass self (kind_from kind) }
     {

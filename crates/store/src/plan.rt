@@ -9,7 +9,7 @@ ghost use Rattle.store.specs.Planner.{Changeable, SlotChanged};
 use crate::edit::NoSpace;
 use tables::{fits_pool, lowest_free, set_word, takes_block};
 
-// Stores the words of old from slot i on.
+/// Stores the words of old from slot i on.
 pub fn undo(words: &mut [u32], counts: &mut [u32], i: usize, old: &[u32])
     requires { Undoable words.old counts.old i old.now }
     ensures { Undone words.old i old.now words.new counts.new }
@@ -19,8 +19,8 @@ pub fn undo(words: &mut [u32], counts: &mut [u32], i: usize, old: &[u32])
     }
 }
 
-// Whether planned words fit the pool. Where they don't, stores the words of old from slot i on, with which they fitted. Words that have
-// not changed need what they did, and are not judged.
+/// Whether planned words fit the pool. Where they don't, stores the words of old from slot i on, with which they fitted. Words that have
+/// not changed need what they did, and are not judged.
 pub fn settle(words: &mut [u32], counts: &mut [u32], i: usize, old: &[u32]) -> Result<(), NoSpace>
     requires { Settleable words.old counts.old i old.now }
     ensures { Planned (splice words.old i old.now) words.old (is_ok result) words.new counts.new }
@@ -44,8 +44,8 @@ fn taken_word(b: usize, w: u32) -> u32
     2 * (b as u32 + 1) + w % 2
 }
 
-// Gives slot i an unshared block: the one it has, or the lowest free one, which is not below `from`. Answers a number below which no
-// block is free; an error where it takes a block and none is free.
+/// Gives slot i an unshared block: the one it has, or the lowest free one, which is not below `from`. Answers a number below which no
+/// block is free; an error where it takes a block and none is free.
 pub fn own_slot(
     words: &mut [u32],
     counts: &mut [u32],

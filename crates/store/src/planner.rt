@@ -1,5 +1,5 @@
 // The plan of any edit, in place: what becomes of each slot of its region, those that become holes first, then the others.
-ghost use Rattle.std.specs.Prelude.{◌≡◌, true, ◌<◌, length, is_ok};
+ghost use Rattle.std.specs.Prelude.{◌≡◌, true, length, is_ok};
 ghost use Rattle.rules.specs.Store.{fits_pool};
 ghost use Rattle.tables.specs.Lent.{geometry_of};
 ghost use Rattle.store.specs.Edits.{kind_from};
@@ -60,7 +60,7 @@ fn pass(
     Ok(())
 }
 
-// Plans e in place and saves the words of its slots in `old`. Where the plan does not fit the pool, the words go back.
+/// Plans e in place and saves the words of its slots in `old`. Where the plan does not fit the pool, the words go back.
 pub fn plan(
     g: Geometry,
     words: &mut [u32],

@@ -1,5 +1,5 @@
 // A file's bytes.
-ghost use Rattle.std.specs.Prelude.{◌≡◌, List, ℕ, ◌+◌, ◌-◌, ◌%◌, ◌<◌, ◌≤◌, min, length};
+ghost use Rattle.std.specs.Prelude.{◌≡◌, List, ℕ, ◌+◌, ◌-◌, ◌%◌, ◌<◌, min, length};
 ghost use Rattle.tables.specs.Lent.{geometry_of};
 ghost use Rattle.rules.specs.Store.{bytes_from};
 ghost use Rattle.store.specs.Readable.{Readable, InSlot};
@@ -7,7 +7,7 @@ ghost use Rattle.store.specs.Readable.{Readable, InSlot};
 use crate::seek::word_at;
 use tables::Geometry;
 
-// Of the n bytes from place i on, how many lie in the slot of place i.
+/// Of the n bytes from place i on, how many lie in the slot of place i.
 pub fn slot_share(b: usize, i: usize, n: usize) -> usize
     requires { 0 < b }
     ensures { result ≡ min n (b - i % b) }
@@ -30,7 +30,7 @@ fn read_slot(g: Geometry, words: &[u32], mem: &[u8], f: usize, i: usize, out: &m
     out.copy_from_slice(&mem[start..start + out.len()]);
 }
 
-// The file's bytes from place off on into the whole of `out`.
+/// The file's bytes from place off on into the whole of `out`.
 pub fn read_bytes(g: Geometry, words: &[u32], mem: &[u8], f: usize, off: usize, out: &mut [u8])
     requires { Readable (geometry_of g) words.now mem.now f (off + length out.old) }
     ensures { (sizes : List ℕ)

@@ -7,7 +7,7 @@ ghost use Rattle.store.specs.Readable.{Placed, PieceEnds, hole_in};
 
 use tables::Geometry;
 
-// The word of the slot in which place i of file f lies.
+/// The word of the slot in which place i of file f lies.
 pub fn word_at(g: Geometry, words: &[u32], f: usize, i: usize) -> u32
     requires { Placed (geometry_of g) words.now f (i + 1) }
     ensures { result ≡ word_of (geometry_of g) words.now f (i / g.block_size) }
@@ -15,7 +15,7 @@ pub fn word_at(g: Geometry, words: &[u32], f: usize, i: usize) -> u32
     words[f * g.slots + i / g.block_size]
 }
 
-// Whether place i of file f lies in a hole.
+/// Whether place i of file f lies in a hole.
 pub fn hole_at(g: Geometry, words: &[u32], f: usize, i: usize) -> bool
     requires { Placed (geometry_of g) words.now f (i + 1) }
     ensures { result ≡ hole_in (geometry_of g) words.now f i }
@@ -23,7 +23,7 @@ pub fn hole_at(g: Geometry, words: &[u32], f: usize, i: usize) -> bool
     word_at(g, words, f, i) / 2 == 0
 }
 
-// The first place from `off` on that is a hole, or data, as asked; or the size.
+/// The first place from `off` on that is a hole, or data, as asked; or the size.
 pub fn seek_file(g: Geometry, words: &[u32], size: u64, f: usize, hole: bool, off: u64) -> u64
     requires { Placed (geometry_of g) words.now f size }
     ensures { (sizes m : List ℕ) → get_or sizes f 0 ≡ size
@@ -40,7 +40,7 @@ pub fn seek_file(g: Geometry, words: &[u32], size: u64, f: usize, hole: bool, of
     size
 }
 
-// Where the piece that starts at place i ends: the first place after i of the other kind, or `end`.
+/// Where the piece that starts at place i ends: the first place after i of the other kind, or `end`.
 pub fn piece_end(g: Geometry, words: &[u32], f: usize, i: usize, end: usize) -> usize
     requires { Placed (geometry_of g) words.now f end × (i < end) }
     ensures { PieceEnds (geometry_of g) words.now f i end result }

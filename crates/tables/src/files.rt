@@ -10,7 +10,7 @@ use crate::geometry::Geometry;
 use crate::groups::all_where;
 use crate::lent::View;
 
-// Whether every byte is 0.
+/// Whether every byte is 0.
 pub fn zero_bytes(bytes: &[u8]) -> bool
     ensures { result ≡ all_to (length bytes.now) (λ j. eqb (get_or bytes.now j 0) 0) }
 {
@@ -43,7 +43,7 @@ fn tail_zero(geometry: Geometry, memory: &[u8], word: u32, from: usize) -> bool
     zero_bytes(&memory[at + from..at + geometry.block_size])
 }
 
-// How many slots a file of that size has.
+/// How many slots a file of that size has.
 pub fn slots_of(size: usize, block_size: usize) -> usize
     requires { (0 < block_size) × (size ≤ 4194304) }
     ensures { result ≡ ceil_div size block_size }
@@ -51,7 +51,7 @@ pub fn slots_of(size: usize, block_size: usize) -> usize
     size.div_ceil(block_size)
 }
 
-// Whether a file is sound. Of the block memory only the bytes past the size, in its last slot's block, are read.
+/// Whether a file is sound. Of the block memory only the bytes past the size, in its last slot's block, are read.
 pub fn file_sound(view: View<'_>, file: usize) -> bool
     requires { FileKnown (geometry_of view.geometry) (view_store view) file }
     ensures { result ≡ sound_file (geometry_of view.entry.geometry) (view_store view.entry) file }

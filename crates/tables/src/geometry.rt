@@ -6,7 +6,7 @@ ghost use Rattle.tables.specs.Dimensions.{numbers};
 
 use crate::refusal::Refusal;
 
-// What a caller says of its tables, any numbers: files, slots per file, blocks in the pool, bytes of a block.
+/// What a caller says of its tables, any numbers: files, slots per file, blocks in the pool, bytes of a block.
 #[derive(Clone, Copy, Debug)]
 pub struct Dimensions {
     pub files: usize,
@@ -15,7 +15,7 @@ pub struct Dimensions {
     pub block_size: usize,
 }
 
-// Those numbers where they lie inside the limits.
+/// Those numbers where they lie inside the limits.
 #[derive(Clone, Copy, Debug)]
 pub struct Geometry {
     pub files: usize,
@@ -33,10 +33,10 @@ impl Geometry {
 
     pub const MAX_BLOCKS: usize = 65536;
 
-    // The largest block.
+    /// The largest block.
     pub const MAX_BLOCK: usize = 4096;
 
-    // Pools of at most so many blocks have smaller local tables.
+    /// Pools of at most so many blocks have smaller local tables.
     pub const SMALL_POOL: usize = 256;
 
     pub const MIDDLE_POOL: usize = 4096;
@@ -45,7 +45,7 @@ impl Geometry {
 impl Dimensions {
     ghost use Rattle.tables.specs.Lent.{geometry_of, dimensions_of};
 
-    // The geometry of these numbers, if they lie inside the limits.
+    /// The geometry of these numbers, if they lie inside the limits.
     #[tactic(auto, unfolding(rules::specs::Store::good_geometry, rules::specs::Store::good_block_size))]
     pub fn geometry(self) -> Result<Geometry, Refusal>
         ensures good { is_ok result ≡ good_geometry (dimensions_of self) }

@@ -11,7 +11,7 @@ impl Group {
     pub const SIZE: usize = 16;
 }
 
-// Whether a whole group of n numbers starts at i.
+/// Whether a whole group of n numbers starts at i.
 pub fn group_at(i: usize, n: usize) -> bool
     requires { i ≤ n }
     ensures { result ≡ group_at i n }
@@ -19,7 +19,7 @@ pub fn group_at(i: usize, n: usize) -> bool
     i % Group::SIZE == 0 && Group::SIZE <= n - i
 }
 
-// Whether each number passes a test.
+/// Whether each number passes a test.
 pub fn all_where<F: Fn(u32) -> bool>(numbers: &[u32], passes: F) -> bool
     requires { F.IsAlwaysCallable passes }
     ensures { (p : ℕ → Bool) → ((n : ℕ) (b : Bool) → F.post passes n b → b ≡ p n) → result ≡ all_to (length numbers.now) (λ i. p (get_or numbers.now i 0)) }
@@ -31,7 +31,7 @@ pub fn all_where<F: Fn(u32) -> bool>(numbers: &[u32], passes: F) -> bool
     all
 }
 
-// How many numbers pass a test. The sum has 32 bits, as they have.
+/// How many numbers pass a test. The sum has 32 bits, as they have.
 pub fn count_where<F: Fn(u32) -> bool>(numbers: &[u32], passes: F) -> usize
     requires callable { F.IsAlwaysCallable passes }
     requires few { length numbers.now ≤ 65536 }
@@ -44,7 +44,7 @@ pub fn count_where<F: Fn(u32) -> bool>(numbers: &[u32], passes: F) -> usize
     sum as usize
 }
 
-// Whether a group starts at i, and each of its numbers passes a test.
+/// Whether a group starts at i, and each of its numbers passes a test.
 pub fn group_where<F: Fn(u32) -> bool>(numbers: &[u32], i: usize, passes: F) -> bool
     requires callable { F.IsAlwaysCallable passes }
     requires inside { i < length numbers.now }

@@ -7,7 +7,7 @@ ghost use Rattle.tables.specs.Lent.{geometry_of, tables};
 use crate::geometry::{Dimensions, Geometry};
 use crate::refusal::Refusal;
 
-// The tables that a caller lends: file sizes, slot words, block memory.
+/// The tables that a caller lends: file sizes, slot words, block memory.
 #[derive(Drop)]
 pub struct Lent<'a> {
     pub sizes: &'a mut [u64],
@@ -15,7 +15,7 @@ pub struct Lent<'a> {
     pub memory: &'a mut [u8],
 }
 
-// The same, only looked at.
+/// The same, only looked at.
 #[derive(Clone, Copy)]
 pub struct Seen<'a> {
     pub sizes: &'a [u64],
@@ -23,7 +23,7 @@ pub struct Seen<'a> {
     pub memory: &'a [u8],
 }
 
-// Tables looked at that have the lengths of their geometry.
+/// Tables looked at that have the lengths of their geometry.
 #[derive(Clone, Copy)]
 pub struct View<'a> {
     pub geometry: Geometry,
@@ -55,7 +55,7 @@ impl<'a> Seen<'a> {
     ghost use Rattle.tables.specs.Loans.{seen_store, refusal_told};
     ghost use Rattle.tables.specs.Viewed.{view_store};
 
-    // The tables of these dimensions, if they lie inside the limits and the tables have their lengths.
+    /// The tables of these dimensions, if they lie inside the limits and the tables have their lengths.
     #[tactic(auto, unfolding(rules::specs::Store::good_lengths, rules::specs::Store::good_geometry, rules::specs::Store::good_block_size, rules::specs::Calls::make_refusal))]
     pub fn view(self, dimensions: Dimensions) -> Result<View<'a>, Refusal>
         ensures refusal { refusal_told result ≡ make_refusal (dimensions_of dimensions) (seen_store self.entry) }

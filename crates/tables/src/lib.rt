@@ -6,7 +6,6 @@ mod counted;
 mod files;
 mod geometry;
 mod groups;
-mod lengths;
 mod lent;
 mod make;
 mod pool;
@@ -19,7 +18,6 @@ mod words;
 
 pub use counted::Survey;
 pub use geometry::{Dimensions, Geometry};
-pub use lengths::good_lengths;
 pub use lent::{Lent, Seen, View};
 pub use make::make_empty;
 pub use pool::{fits_pool, lowest_free, takes_block};

@@ -7,7 +7,7 @@ use crate::geometry::Dimensions;
 use crate::lent::Lent;
 use crate::refusal::Refusal;
 
-// Zeroes every table, or answers a refusal and leaves them as they are.
+/// Zeroes every table, or answers a refusal and leaves them as they are.
 #[tactic(auto, unfolding(rules::specs::Calls::made_store, rules::specs::Store::empty_store, rules::specs::Store::good_lengths))]
 pub fn make_empty(dimensions: Dimensions, lent: &mut Lent<'_>) -> Result<(), Refusal>
     ensures made { MakePromise (dimensions_of dimensions) (lent_store lent.old) (refusal_told result) (lent_store lent.new) }

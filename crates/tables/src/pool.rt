@@ -5,10 +5,11 @@ ghost use Rattle.rules.specs.Store.{fits_pool};
 ghost use Rattle.tables.specs.Tables.{TableTrue};
 ghost use Rattle.tables.specs.Tally.{takes_by, owes_by, InTable, OwedFrom, OwedKnown, RoomKnown, first_zero, HeldFrom};
 
+use crate::counted::Counted;
 use crate::groups::{Group, all_where, count_where, group_at, group_where};
 use crate::tally::block_or;
 
-// How many blocks have a holder: all but the free ones.
+/// How many blocks have a holder: all but the free ones.
 pub fn used_blocks(counts: &[u32]) -> usize
     requires { length counts.now ≤ 65536 }
     ensures { result ≡ count (ltb 0) counts.now }
@@ -16,7 +17,7 @@ pub fn used_blocks(counts: &[u32]) -> usize
     counts.len() - count_where(counts, |holders| holders == 0)
 }
 
-// Whether a slot with this word is a hole or holds a shared block. A hole reads a count too: nothing is guessed.
+/// Whether a slot with this word is a hole or holds a shared block. A hole reads a count too: nothing is guessed.
 pub fn takes_block(word: u32, counts: &[u32]) -> bool
     requires { (word / 2 ≤ length counts.now) × (0 < length counts.now) }
     ensures { result ≡ takes_by counts.now word }
@@ -60,7 +61,7 @@ fn owed_from(words: &[u32], counts: &[u32], i: usize) -> (usize, usize)
     (Group::SIZE, owed_each(group, counts))
 }
 
-// How many slots owe a block.
+/// How many slots owe a block.
 pub fn owed_slots(words: &[u32], counts: &[u32]) -> usize
     requires { InTable words.now counts.now }
     ensures { result ≡ count (owes_by counts.now) words.now }
@@ -75,39 +76,39 @@ pub fn owed_slots(words: &[u32], counts: &[u32]) -> usize
     sum
 }
 
-// The same where so many slots hold a block, so many blocks are used, and a slot is reserved or none is. Without a reserved slot
-// nothing is owed. Where each slot that holds a block holds it alone, reserved holes are.
-pub fn owed_of(held: usize, used: usize, reserved: bool, words: &[u32], counts: &[u32]) -> usize
-    requires { OwedKnown held used reserved words.now counts.now }
+/// The same where that is counted of the slots, and so many blocks are used. Without a reserved slot
+/// nothing is owed. Where each slot that holds a block holds it alone, reserved holes are.
+pub fn owed_of(counted: Counted, used: usize, words: &[u32], counts: &[u32]) -> usize
+    requires { OwedKnown counted.held used counted.reserved words.now counts.now }
     ensures { result ≡ count (owes_by counts.now) words.now }
 {
-    if !reserved {
+    if !counted.reserved {
         return 0;
     }
-    if held == used {
+    if counted.held == used {
         return count_where(words, |word| word == 1);
     }
     owed_slots(words, counts)
 }
 
-// Whether used and owed blocks fit the pool, where so many slots hold a block, and one is reserved or none is. They are counted only
-// where they may not fit: nothing is owed without a reserved slot, and they are never more than the slots that hold a block and those
-// that are reserved.
-pub fn fits_of(held: usize, reserved: bool, words: &[u32], counts: &[u32]) -> bool
-    requires { RoomKnown held reserved words.now counts.now }
+/// Whether used and owed blocks fit the pool, where that is counted of the slots. They are counted only
+/// where they may not fit: nothing is owed without a reserved slot, and they are never more than the slots that hold a block and those
+/// that are reserved.
+pub fn fits_of(counted: Counted, words: &[u32], counts: &[u32]) -> bool
+    requires { RoomKnown counted.held counted.reserved words.now counts.now }
     ensures { result ≡ fits_pool (length counts.now) words.now }
 {
-    if !reserved {
+    if !counted.reserved {
         return true;
     }
-    if held + count_where(words, |word| word % 2 == 1) <= counts.len() {
+    if counted.held + count_where(words, |word| word % 2 == 1) <= counts.len() {
         return true;
     }
     let used = used_blocks(counts);
-    used + owed_of(held, used, reserved, words, counts) <= counts.len()
+    used + owed_of(counted, used, words, counts) <= counts.len()
 }
 
-// The same, counting those slots.
+/// The same, counting those slots.
 pub fn fits_pool(words: &[u32], counts: &[u32]) -> bool
     requires { TableTrue words.now counts.now }
     ensures { result ≡ fits_pool (length counts.now) words.now }
@@ -115,7 +116,11 @@ pub fn fits_pool(words: &[u32], counts: &[u32]) -> bool
     if all_where(words, |word| word % 2 != 1) {
         return true;
     }
-    fits_of(count_where(words, |word| 1 < word), true, words, counts)
+    let counted = Counted {
+        held: count_where(words, |word| 1 < word),
+        reserved: true,
+    };
+    fits_of(counted, words, counts)
 }
 
 // How many blocks from a block on are seen to be held: the group that starts there, the block, or none.
@@ -132,8 +137,8 @@ fn held_from(counts: &[u32], block: usize) -> usize
     1
 }
 
-// The first block without a holder, which is not below `from`; their number where each has one. No block is looked at more than once
-// in its group and once alone.
+/// The first block without a holder, which is not below `from`; their number where each has one. No block is looked at more than once
+/// in its group and once alone.
 pub fn lowest_free(counts: &[u32], from: usize) -> usize
     requires { from ≤ first_zero counts.now }
     ensures { result ≡ first_zero counts.now }

@@ -2,7 +2,7 @@
 ghost use Rattle.std.specs.Prelude.{◌≡◌};
 ghost use Rattle.tables.specs.Refusal.{number_of};
 
-// The geometry lies outside its limits, a length is another, the store is not sound, there is no such slot.
+/// The geometry lies outside its limits, a length is another, the store is not sound, there is no such slot.
 #[derive(Clone, Copy, Debug, PartialEq, Eq)]
 pub enum Refusal {
     Geometry = 1,

@@ -10,7 +10,7 @@ ghost use Rattle.tables.specs.Viewed.{view_store};
 
 use crate::counted::{Counted, Survey};
 use crate::files::{file_sound, slots_of};
-use crate::geometry::Dimensions;
+use crate::geometry::{Dimensions, Geometry};
 use crate::lent::{Seen, View};
 use crate::pool::{fits_of, owed_of, used_blocks};
 use crate::refusal::Refusal;
@@ -52,7 +52,7 @@ fn test_tables(view: View<'_>, counts: &mut [u32]) -> Option<Counted>
     Some(Counted { held, reserved })
 }
 
-// Whether the store is sound. Nothing is counted that need not be.
+/// Whether the store is sound. Nothing is counted that need not be.
 pub fn judge_tables(view: View<'_>, counts: &mut [u32]) -> bool
     requires { counts.old ≡ replicate view.geometry.blocks 0 }
     ensures { TableJudged (geometry_of view.entry.geometry) (view_store view.entry) result counts.new }
@@ -60,9 +60,10 @@ pub fn judge_tables(view: View<'_>, counts: &mut [u32]) -> bool
     let Some(counted) = test_tables(view, counts) else {
         return false;
     };
-    fits_of(counted.held, counted.reserved, view.words, counts)
+    fits_of(counted, view.words, counts)
 }
 
+// The used and owed blocks, by a table that has a zero for each block.
 fn survey_in(view: View<'_>, counts: &mut [u32]) -> Result<Survey, Refusal>
     requires { counts.old ≡ replicate view.geometry.blocks 0 }
     ensures { SurveyPromise (geometry_of view.entry.geometry) (view_store view.entry) (refusal_told result) (used_told result) (owed_told result) }
@@ -71,14 +72,14 @@ fn survey_in(view: View<'_>, counts: &mut [u32]) -> Result<Survey, Refusal>
         return Err(Refusal::Unsound);
     };
     let used = used_blocks(counts);
-    let owed = owed_of(counted.held, used, counted.reserved, view.words, counts);
+    let owed = owed_of(counted, used, view.words, counts);
     if view.geometry.blocks < used + owed {
         return Err(Refusal::Unsound);
     }
     Ok(Survey { used, owed })
 }
 
-// The same with a table of its own, which it only lends. A small table is cleared faster.
+// The same with a table of its own, in a frame of its own: a small table is cleared faster.
 #[inline(never)]
 fn survey_with<const N: usize>(view: View<'_>) -> Result<Survey, Refusal>
     requires fits { view.geometry.blocks ≤ N }
@@ -89,17 +90,18 @@ fn survey_with<const N: usize>(view: View<'_>) -> Result<Survey, Refusal>
     survey_in(view, &mut counts[..view.geometry.blocks])
 }
 
+/// The survey of tables that have their lengths. Pools of few blocks have smaller tables.
 pub fn survey_tables(view: View<'_>) -> Result<Survey, Refusal>
     ensures { SurveyPromise (geometry_of view.entry.geometry) (view_store view.entry) (refusal_told result) (used_told result) (owed_told result) }
 {
     match view.geometry.blocks {
-        0..=256 => survey_with::<256>(view),
-        257..=4096 => survey_with::<4096>(view),
-        _ => survey_with::<65536>(view),
+        ..=Geometry::SMALL_POOL => survey_with::<{ Geometry::SMALL_POOL }>(view),
+        ..=Geometry::MIDDLE_POOL => survey_with::<{ Geometry::MIDDLE_POOL }>(view),
+        _ => survey_with::<{ Geometry::MAX_BLOCKS }>(view),
     }
 }
 
-// The used and owed blocks of a sound store, or a refusal.
+/// The used and owed blocks of a sound store, or a refusal.
 #[tactic(auto, unfolding(rules::specs::Calls::make_refusal, rules::specs::Calls::store_refusal, rules::specs::Calls::used_count, rules::specs::Calls::owed_count))]
 pub fn survey(dimensions: Dimensions, seen: Seen<'_>) -> Result<Survey, Refusal>
     ensures { SurveyPromise (dimensions_of dimensions) (seen_store seen.entry) (refusal_told result) (used_told result) (owed_told result) }

@@ -10,7 +10,7 @@ use crate::pool::owed_slots;
 use crate::tally::note_all;
 use crate::words::forget;
 
-// Slots that hold a block or are reserved; and blocks that no other slot holds, with the slots that owe one.
+/// Slots that hold a block or are reserved; and blocks that no other slot holds, with the slots that owe one.
 #[derive(Clone, Copy, Debug)]
 pub struct Space {
     pub used: usize,
@@ -56,7 +56,7 @@ fn slots_space(words: &[u32], counts: &mut [u32]) -> Space
     }
 }
 
-// The room of a file. The table of holders is afterwards as it was.
+/// The room of a file. The table of holders is afterwards as it was.
 pub fn file_space(geometry: Geometry, words: &[u32], counts: &mut [u32], file: usize) -> Space
     requires { SpaceKnown (geometry_of geometry) words.now counts.old file }
     ensures { SpaceIs (geometry_of geometry) words.now file result.used result.freed counts.old counts.new }

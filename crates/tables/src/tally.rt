@@ -26,7 +26,7 @@ fn rest_holes(held: usize, words: &[u32]) -> bool
     held + count_where(words, |word| word <= 1) == words.len()
 }
 
-// What one pass tells of slot words; None where one names a block that is none of so many.
+/// What one pass tells of slot words; None where one names a block that is none of so many.
 pub fn scan_words(words: &[u32], blocks: usize) -> Option<Counted>
     requires { (blocks ≤ 65536) × (length words.now ≤ 65536) }
     ensures formed { is_some result ≡ all_to (length words.now) (λ i. leb (get_or words.now i 0 / 2) blocks) }
@@ -46,7 +46,7 @@ pub fn scan_words(words: &[u32], blocks: usize) -> Option<Counted>
     Some(Counted { held, reserved })
 }
 
-// One more holder of the block of a word; a hole has none.
+/// One more holder of the block of a word; a hole has none.
 #[tactic(auto, using(crate::proofs::TallyLaws::noted_none))]
 pub fn note(counts: &mut [u32], word: u32)
     requires { Notable word counts.old }
@@ -66,7 +66,7 @@ fn note_held(counts: &mut [u32], word: u32)
     counts[(word / 2) as usize - 1] += 1;
 }
 
-// The block of a word, or `own` for a hole.
+/// The block of a word, or `own` for a hole.
 pub fn block_or(word: u32, own: usize) -> usize
     ensures { result ≡ cond (is_hole word) own (pred (word / 2)) }
 {
@@ -81,8 +81,8 @@ fn note_mixed(counts: &mut [u32], word: u32, own: usize)
     requires { Notable word counts.old × (own < length counts.old) }
     ensures { counts.new ≡ noted (word / 2) counts.old }
 {
-    let b = block_or(word, own);
-    counts[b] += u32::from(1 < word);
+    let block = block_or(word, own);
+    counts[block] += u32::from(1 < word);
 }
 
 // One more holder of its block for each word; HELD says that each holds one. Holes add nothing to numbers of their own, so that none waits
@@ -113,6 +113,8 @@ fn note_from<const HELD: bool>(words: &[u32], counts: &mut [u32], i: usize) -> u
     1
 }
 
+// Never inlined: the loop is faster in a function of its own.
+#[inline(never)]
 fn note_groups<const HELD: bool>(words: &[u32], counts: &mut [u32])
     requires { GroupsFit HELD words.now counts.old }
     ensures { NotedAll words.now counts.old counts.new }
@@ -145,7 +147,7 @@ pub fn note_all(words: &[u32], counts: &mut [u32])
     note_counted(count_where(words, |word| 1 < word), words, counts);
 }
 
-// Scans slots and, where each names one of the blocks or none, notes them.
+/// Scans slots and, where each names one of the blocks or none, notes them.
 pub fn scan_and_note(words: &[u32], counts: &mut [u32]) -> Option<Counted>
     requires { Scannable words.now counts.old }
     ensures formed { is_some result ≡ all_to (length words.now) (λ i. leb (get_or words.now i 0 / 2) (length counts.old)) }

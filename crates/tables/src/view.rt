@@ -12,7 +12,7 @@ use crate::lent::{Seen, View};
 use crate::refusal::Refusal;
 use crate::sound::survey_tables;
 
-// Where a slot's part starts: in the memory, or for a hole in the page.
+/// Where a slot's part starts: in the memory, or for a hole in the page.
 #[derive(Clone, Copy, Debug)]
 pub struct Place {
     pub hole: bool,
@@ -46,7 +46,7 @@ fn slot_tables<'a>(
     Ok(view)
 }
 
-// Which of the two slices has the slot's part, and where it starts there.
+/// Which of the two slices has the slot's part, and where it starts there.
 #[tactic(auto, unfolding(rules::specs::Calls::slot_is_hole, rules::specs::Calls::slot_start))]
 pub fn slot_place(
     dimensions: Dimensions,
@@ -71,7 +71,7 @@ pub fn slot_place(
     })
 }
 
-// The slot's part; on a refusal the page's empty start.
+/// The slot's part; on a refusal the page's empty start.
 #[tactic(auto, unfolding(rules::specs::Calls::slot_view, rules::specs::Calls::slot_is_hole, rules::specs::Calls::slot_start))]
 pub fn slot_view<'a>(
     dimensions: Dimensions,

@@ -5,7 +5,7 @@ ghost use Rattle.tables.specs.Tables.{TableTrue, Stored};
 
 use crate::tally::note;
 
-// One holder less of the block of a word; a hole has none.
+/// One holder less of the block of a word; a hole has none.
 #[tactic(auto, using(crate::proofs::WordLaws::forgot_none, crate::proofs::WordLaws::forgot_some))]
 pub fn forget(counts: &mut [u32], word: u32)
     requires { Forgettable word counts.old }

@@ -10,7 +10,7 @@ ghost use Rattle.wire.specs.Attrs.{asks, AsksAs, attrs_of, bitmap_bytes, value_b
 
 use xdr::{Reader, Span, Writer};
 
-// The attributes that are asked for.
+/// The attributes that are asked for.
 #[derive(Clone, Copy, Debug, PartialEq, Eq)]
 pub struct Asked {
     pub supported_attrs: bool,
@@ -20,7 +20,7 @@ pub struct Asked {
     pub space_freed: bool,
 }
 
-// What a file's attributes say; the value of supported_attrs is the same for all files.
+/// What a file's attributes say; the value of supported_attrs is the same for all files.
 #[derive(Clone, Copy, Debug, PartialEq, Eq)]
 pub struct FileAttrs {
     pub size: u64,
@@ -30,7 +30,7 @@ pub struct FileAttrs {
 }
 
 impl Asked {
-    // The attributes' bits: two in the first word of a bitmap, one in the second, two in the third.
+    /// The attributes' bits: two in the first word of a bitmap, one in the second, two in the third.
     pub const SUPPORTED_ATTRS: u32 = 1;
 
     pub const SIZE: u32 = 16;
@@ -41,7 +41,7 @@ impl Asked {
 
     pub const SPACE_FREED: u32 = 16384;
 
-    // All that we have.
+    /// All that we have.
     pub fn all() -> Self
         ensures { bitmap_bytes result ≡ array (bitmap supported) }
     {
@@ -76,7 +76,7 @@ fn has_bit(w: u32, bit: u32) -> bool
     w / bit % 2 == 1
 }
 
-// What the bitmap whose words stand at d asks for.
+/// What the bitmap whose words stand at d asks for.
 pub fn asked_in(s: &[u8], d: Span) -> Asked
     ensures { AsksAs (numbers (part_of s.now d)) result }
 {

@@ -218,7 +218,7 @@ fn unserved_ending(number: u32) -> Ending
     }
 }
 
-// The next operation. Where its bytes are wrong the status is BADXDR, and the reader is at the place of the fault.
+/// The next operation. Where its bytes are wrong the status is BADXDR, and the reader is at the place of the fault.
 #[tactic(auto, using(crate::proofs::ItemLaws::item_by), unfolding(rules::specs::Operation::item_at, rules::specs::Fault::fault_at))]
 pub fn item(r: &mut Reader<'_>) -> Result<Operation, Ending>
     ensures value { item_of r.old.bytes.now result r.new.at ≡ item_at r.old.bytes.now r.old.at }
@@ -241,7 +241,7 @@ pub fn item(r: &mut Reader<'_>) -> Result<Operation, Ending>
     }
 }
 
-// The header of a request. The first operation comes next.
+/// The header of a request. The first operation comes next.
 #[tactic(auto, unfolding(rules::specs::Operation::header, xdr::specs::Decode::opaque_up_to))]
 pub fn header(r: &mut Reader<'_>) -> Option<Header>
     ensures value { parsed (header_of r.old.bytes.now) result r.new.at ≡ header r.old.bytes.now r.old.at }

@@ -13,7 +13,7 @@ pub struct Header {
     pub ops: u32,
 }
 
-// Of READ and READ_PLUS; of SEEK too, where `count` is the kind that is asked for.
+/// Of READ and READ_PLUS; of SEEK too, where `count` is the kind that is asked for.
 #[derive(Clone, Copy, Debug, PartialEq, Eq)]
 pub struct ReadArgs {
     pub stateid: Span,
@@ -29,7 +29,7 @@ pub struct WriteArgs {
     pub data: Span,
 }
 
-// Of ALLOCATE and DEALLOCATE.
+/// Of ALLOCATE and DEALLOCATE.
 #[derive(Clone, Copy, Debug, PartialEq, Eq)]
 pub struct RegionArgs {
     pub stateid: Span,
@@ -46,8 +46,8 @@ pub struct CloneArgs {
     pub count: u64,
 }
 
-// Of a COPY with no source server. A request's two booleans are 0 or 1. They are numbers, since a caller who writes a request may give
-// any, and another one is refused.
+/// Of a COPY with no source server. A request's two booleans are 0 or 1. They are numbers, since a caller who writes a request may give
+/// any, and another one is refused.
 #[derive(Clone, Copy, Debug, PartialEq, Eq)]
 pub struct CopyArgs {
     pub clone: CloneArgs,
@@ -55,7 +55,7 @@ pub struct CopyArgs {
     pub synchronous: u32,
 }
 
-// GETATTR's span has the words of its bitmap, PUTFH's the handle.
+/// GETATTR's span has the words of its bitmap, PUTFH's the handle.
 #[derive(Clone, Copy, Debug, PartialEq, Eq)]
 pub enum Operation {
     GetAttr(Span),
@@ -74,7 +74,7 @@ pub enum Operation {
 }
 
 impl Operation {
-    // Operation numbers.
+    /// Operation numbers.
     pub const GETATTR: u32 = 9;
 
     pub const GETFH: u32 = 10;
@@ -109,7 +109,7 @@ impl Operation {
 
     pub const ILLEGAL: u32 = 10044;
 
-    // Limits: bytes of a stateid, of a handle and of a tag; words of a bitmap; the highest stable_how; operations in a compound.
+    /// Limits: bytes of a stateid, of a handle and of a tag; words of a bitmap; the highest stable_how; operations in a compound.
     pub const STATEID: usize = 16;
 
     pub const MAX_HANDLE: u32 = 128;
@@ -122,10 +122,10 @@ impl Operation {
 
     pub const MAX_OPS: u32 = 12;
 
-    // The highest number of 64 bits.
+    /// The highest number of 64 bits.
     pub const MAX_LONG: u64 = 18446744073709551615;
 
-    // Bytes that a READ grants at most.
+    /// Bytes that a READ grants at most.
     pub const MAX_READ: u32 = 2048;
 
     pub fn number(self) -> u32
@@ -149,7 +149,7 @@ impl Operation {
     }
 }
 
-// The result that ends the compound in place of an operation's own.
+/// The result that ends the compound in place of an operation's own.
 #[derive(Clone, Copy, Debug, PartialEq, Eq)]
 pub struct Ending {
     pub number: u32,

@@ -11,7 +11,7 @@ use xdr::Writer;
 // FILE_SYNC4.
 const FILE_SYNC: u32 = 2;
 
-// The first two fields of a result: operation number and status.
+/// The first two fields of a result: operation number and status.
 #[tactic(auto, using(xdr::proofs::EncodeLaws::lengths))]
 pub fn put_result(w: &mut Writer<'_>, number: u32, status: Status)
     requires { HasRoom 8 w.old }
@@ -21,7 +21,7 @@ pub fn put_result(w: &mut Writer<'_>, number: u32, status: Status)
     w.u32(status.number());
 }
 
-// WRITE's: count, committed, verifier.
+/// WRITE's: count, committed, verifier.
 #[tactic(auto, using(xdr::proofs::EncodeLaws::lengths))]
 pub fn put_written(w: &mut Writer<'_>, count: u32, verifier: u64)
     requires { HasRoom 16 w.old }
@@ -32,7 +32,7 @@ pub fn put_written(w: &mut Writer<'_>, count: u32, verifier: u64)
     w.u64(verifier);
 }
 
-// COPY's: no callback id, count, committed, verifier, consecutive, synchronous.
+/// COPY's: no callback id, count, committed, verifier, consecutive, synchronous.
 #[tactic(auto, using(xdr::proofs::EncodeLaws::lengths))]
 pub fn put_copied(w: &mut Writer<'_>, count: u64, verifier: u64)
     requires { HasRoom 32 w.old }
@@ -46,7 +46,7 @@ pub fn put_copied(w: &mut Writer<'_>, count: u64, verifier: u64)
     w.boolean(true);
 }
 
-// SEEK's: eof, the place.
+/// SEEK's: eof, the place.
 #[tactic(auto, using(xdr::proofs::EncodeLaws::lengths))]
 pub fn put_sought(w: &mut Writer<'_>, eof: bool, place: u64)
     requires { HasRoom 12 w.old }
@@ -56,7 +56,7 @@ pub fn put_sought(w: &mut Writer<'_>, eof: bool, place: u64)
     w.u64(place);
 }
 
-// A piece of READ_PLUS that is a hole.
+/// A piece of READ_PLUS that is a hole.
 #[tactic(auto, using(xdr::proofs::EncodeLaws::lengths))]
 pub fn put_hole(w: &mut Writer<'_>, start: u64, n: u64)
     requires { HasRoom 20 w.old }
@@ -67,7 +67,7 @@ pub fn put_hole(w: &mut Writer<'_>, start: u64, n: u64)
     w.u64(n);
 }
 
-// The head of a piece of data: content type and offset. The data follow.
+/// The head of a piece of data: content type and offset. The data follow.
 #[tactic(auto, using(xdr::proofs::EncodeLaws::lengths))]
 pub fn put_data_head(w: &mut Writer<'_>, start: u64)
     requires { HasRoom 12 w.old }

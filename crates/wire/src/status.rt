@@ -2,7 +2,7 @@
 ghost use Rattle.std.specs.Prelude.{◌≡◌};
 ghost use Rattle.wire.specs.Status.{number_of};
 
-// The numbers of RFC 5661 (15.1) and RFC 7862 (11.1).
+/// The numbers of RFC 5661 (15.1) and RFC 7862 (11.1).
 #[derive(Clone, Copy, Debug, PartialEq, Eq)]
 pub enum Status {
     Ok = Status::OK as isize,
@@ -56,7 +56,7 @@ impl Status {
 
     pub const UNION_NOTSUPP: u32 = 10090;
 
-    // Its number in a reply.
+    /// Its number in a reply.
     pub fn number(self) -> u32
         ensures { result ≡ number_of self }
     {

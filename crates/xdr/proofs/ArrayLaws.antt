@@ -10,8 +10,8 @@ use native.Mathlib.Omega.{arith}
 use borrow.Author.Tests.{ltb-true}
 use lib.ListN.{length, get_or, take, drop, get_or-eq_default}
 use lib.Dec.{leb}
-use lib.Seq.{take-suc, take_all, take_at, drop_at, drop-drop}
-use Rattle.xdr.specs.Bytes.{part_of, Written}
+use lib.Seq.{take-suc, take_at, drop_at, drop-drop}
+use Rattle.xdr.specs.Bytes.{part_of}
 use Rattle.xdr.specs.Writing.{Wrote}
 use Rattle.xdr.specs.declared.writer.Writer.{Writer}
 use Rattle.xdr.specs.Encode.{u32, concat_map, array}
@@ -19,7 +19,6 @@ use Rattle.xdr.specs.Decode.{Parsed, got, fault, value, number, fours, numbers, 
 use Rattle.xdr.specs.Layout.{every, is_word, uints}
 use Rattle.xdr.proofs.BoolLaws.{and_left, and_right}
 use Rattle.xdr.proofs.EncodeLaws.{length-u32, value-be, numbers-length, length-array}
-use Rattle.xdr.proofs.BytesLaws.{written_then}
 use Rattle.xdr.proofs.WritingLaws.{wrote_then}
 use Rattle.xdr.proofs.DecodeLaws.{there, missing, number-there, number-missing, array-numbers}
 use Rattle.xdr.proofs.RoundTrip.{Stands, stands-first, stands-rest, stands-within, bounded-back}
@@ -30,22 +29,6 @@ use Rattle.xdr.proofs.LayoutLaws.{ReadsBack, at_most, is_word_lem}
 pub concat_map_append : {A : Type 0} (f : A → List ℕ) (xs ys : List A) → concat_map f (xs ++ ys) ≡ concat_map f xs ++ concat_map f ys
 concat_map_append f [] ys = refl
 concat_map_append f (x ∷ xs) ys = ap (λ (l : List ℕ). f x ++ l) (concat_map_append f xs ys) ∙ sym (append_assoc (f x) (concat_map f xs) (concat_map f ys))
-
--- the first i of the numbers ns, written from place `at` on
-module _ (ns : List ℕ) {at : ℕ} {x : List ℕ} where
-  pub numbers_more : {y z : List ℕ} {i p q : ℕ} → i < length ns → at ≤ length x → Written (concat_map u32 (take i ns)) (4 * i) at x y p
-      → Written (u32 (get_or ns i 0)) 4 p y z q → Written (concat_map u32 (take (i + 1) ns)) (4 * (i + 1)) at x z q
-  numbers_more {i = i} h l f g =
-      let w = written_then l f g in
-      let one : concat_map u32 (take (i + 1) ns) ≡ concat_map u32 (take i ns) ++ u32 (get_or ns i 0)
-      = rw (add-one i, take-suc ns i 0 h, concat_map_append u32 (take i ns) (get_or ns i 0 ∷ [])) (rw append-nil) in
-      record { bytes = rw one w.bytes; size = rw one (w.size ∙ omega arith); place = w.place ∙ omega arith }
-
-  pub numbers-end : {y : List ℕ} {i p : ℕ} → i ≤ length ns → length ns ≤ i → Written (concat_map u32 (take i ns)) (4 * i) at x y p
-      → Written (concat_map u32 ns) (4 * length ns) at x y p
-  numbers-end {i = i} h l w =
-      let e : i ≡ length ns = omega arith in
-      rw (take_all i ns l, e) at w
 
 -- one more of the numbers
 pub wrote_numbers : (ns : List ℕ) (i : ℕ) {x y z : Writer} → i < length ns → Wrote (concat_map u32 (take i ns)) x y → Wrote (u32 (get_or ns i 0)) y z

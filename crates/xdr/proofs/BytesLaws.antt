@@ -1,15 +1,13 @@
 -- Laws on parts of lists: what a splice leaves at each place, and how splices join.
 use Prim.Native.Nat.{ℕ, ◌+◌, ◌-◌, ◌≤◌, ◌<◌}
-use mathlib.Core.Path.{◌≡◌, refl, sym, ap, ◌∙◌}
-use mathlib.Core.List.{List, [], ◌∷◌, ◌++◌, append_assoc, append-nil}
-use native.Mathlib.Nat.{add-zero, add_assoc, add-sub_of_le}
-use native.Mathlib.Numerals.{add-one, add-two, add-three}
+use mathlib.Core.Path.{◌≡◌, sym, ap, ◌∙◌}
+use mathlib.Core.List.{List, ◌++◌, append_assoc}
+use native.Mathlib.Nat.{add_assoc, add-sub_of_le}
 use native.Mathlib.Omega.{arith}
-use lib.ListN.{length, get_or, set, take, drop, replicate, length-append, length-take, length-drop, get_or-append, drop_of_length-le, length-replicate, length-set, take-append-drop}
-use borrow.Author.Fill.{fill_none, fill_more}
-use lib.Seq.{take-append-le, take-take, drop-append_seam, get_or-append-add, get_or-take, get_or-drop, length-take-le, take_all, drop-drop, take-append-add, drop-append-add, sets-eq, take-append_seam, take-suc, take-suc-set, take_at, drop_at}
+use lib.ListN.{length, get_or, take, drop, replicate, length-append, length-take, length-drop, get_or-append, length-replicate}
+use lib.Seq.{drop-append_seam, get_or-append-add, get_or-take, get_or-drop, length-take-le, drop-drop, take-append-add, drop-append-add, take-append_seam, take_at, drop_at}
 use borrow.Rule.Slice.PartMut as P
-use Rattle.xdr.specs.Bytes.{splice, Written}
+use Rattle.xdr.specs.Bytes.{splice}
 
 -- ---- a part that is stored over
 
@@ -91,86 +89,10 @@ splice-splice m at a b h =
     ∙ ap (λ (n : ℕ). drop n m) sum in
     rw (front, back) (append_assoc t a (b ++ drop (at + length (a ++ b)) m) ∙ ap (λ (l : List ℕ). t ++ l) (sym (append_assoc a b (drop (at + length (a ++ b)) m))))
 
--- a writer with room keeps the length
-pub written-length : {a : List ℕ} {n at p : ℕ} {x y : List ℕ} → at + n ≤ length x → Written a n at x y p → length y ≡ length x
-written-length {a} {n} {at} {x = x} h w = ap length w.bytes ∙ length-splice x at a (omega (arith, w.size))
-
--- no bytes
-pub written_none : (x : List ℕ) (at : ℕ) → Written [] 0 at x x at
-unfolding splice
-written_none x at = record { bytes = rw (add-zero at) (sym (take-append-drop at x)); size = refl; place = omega arith }
-
--- what two writers leave, the second behind the first
-pub written_then : {a b : List ℕ} {n m at p q : ℕ} {x y z : List ℕ} → at ≤ length x → Written a n at x y p → Written b m p y z q
-    → Written (a ++ b) (n + m) at x z q
-written_then {a} {b} {n} {m} {at} {p} {q} {x} {y} {z} h f g =
-    let e : p ≡ at + length a = f.place ∙ ap (λ (k : ℕ). at + k) (sym f.size) in
-    record {
-      bytes = g.bytes ∙ ap (λ (l : List ℕ). splice l p b) f.bytes ∙ ap (λ (k : ℕ). splice (splice x at a) k b) e ∙ splice-splice x at a b h;
-      size = omega (arith, length-append a b, f.size, g.size);
-      place = omega (arith, f.place, g.place);
-    }
-
--- two splices, the second just before the first, are one
-pub splice-before : (m : List ℕ) (at b : ℕ) (a c : List ℕ) → at + length a ≡ b → b + length c ≤ length m → splice (splice m b c) at a ≡ splice m at (a ++ c)
-unfolding splice
-splice-before m at b a c e h =
-    let t = take b m in
-    let r = drop (b + length c) m in
-    let k : length t ≡ b = length-take-le b m (omega arith) in
-    let front : take at (t ++ (c ++ r)) ≡ take at m = take-append-le at t (c ++ r) (omega arith) ∙ take-take at b m (omega arith) in
-    let back : drop (at + length a) (t ++ (c ++ r)) ≡ c ++ r = ap (λ (n : ℕ). drop n (t ++ (c ++ r))) (e ∙ sym k) ∙ drop-append_seam t (c ++ r) in
-    let sum : b + length c ≡ at + length (a ++ c) = omega (arith, length-append a c) in
-    rw (front, back, sum) (ap (λ (l : List ℕ). take at m ++ l) (sym (append_assoc a c (drop (at + length (a ++ c)) m))))
-
--- what two writers leave, the second in front of the first; the place after both is the first one's
-pub written-before : {a b : List ℕ} {n m at p q r : ℕ} {x y z : List ℕ} → at + n ≡ p → p + m ≤ length x → Written b m p x y q → Written a n at y z r
-    → Written (a ++ b) (n + m) at x z q
-written-before {a} {b} {n} {m} {at} {p} {q} {r} {x} {y} {z} e h f g = record {
-  bytes = g.bytes ∙ ap (λ (l : List ℕ). splice l at a) f.bytes ∙ splice-before x at p a b (omega (arith, e, g.size)) (omega (arith, h, f.size));
-  size = omega (arith, length-append a b, f.size, g.size);
-  place = omega (arith, e, f.place);
-}
-
 -- a lent part that comes back is a splice
 pub put-splice : (a n : ℕ) (xs ys zs : List ℕ) → ys ≡ zs → length zs ≡ n → P.put_mid a (a + n - a) xs ys ≡ splice xs a zs
 unfolding splice
 put-splice a n xs ys zs e h = rw (P.Post-is a (a + n) xs (omega arith), e, h)
-
--- four stores in a row are a splice
-pub put4 : (l : List ℕ) (at a b c d : ℕ) → at + 4 ≤ length l → set (set (set (set l at a) (at + 1) b) (at + 2) c) (at + 3) d ≡ splice l at (a ∷ b ∷ c ∷ d ∷ [])
-unfolding splice
-put4 l at a b c d h =
-    rw (add-one at, add-two at, add-three at)
-    (sets-eq (a ∷ b ∷ c ∷ d ∷ []) l at h ∙ append_assoc (take at l) (a ∷ b ∷ c ∷ d ∷ []) (drop (at + 4) l))
-
--- ---- loops that copy and zero
-
-pub copy_more : (dst src : List ℕ) (i : ℕ) → i < length dst → i < length src → take i dst ≡ take i src → take (i + 1) (set dst i (get_or src i 0)) ≡ take (i + 1) src
-copy_more dst src i h k e = rw (add-one i, take-suc-set dst i (get_or src i 0) h, take-suc src i 0 k, e)
-
-pub copy-all : (dst src : List ℕ) (i : ℕ) → take i dst ≡ take i src → length dst ≤ i → length src ≤ i → dst ≡ src
-copy-all dst src i e h k = sym (take_all i dst h) ∙ e ∙ take_all i src k
-
--- d is d₀ with its first i elements 0
-pub record Zeroing (d₀ d : List ℕ) (i : ℕ) : Type 0 where
-  pub within : i ≤ length d₀
-  pub cells : d ≡ replicate i 0 ++ drop i d₀
-  pub same : length d ≡ length d₀
-
-pub zeroing_start : (d : List ℕ) → Zeroing d d 0
-zeroing_start d = record { within = omega arith; cells = fill_none d 0; same = refl }
-
-pub zeroing_more : {d₀ d : List ℕ} {i : ℕ} → Zeroing d₀ d i → i < length d → Zeroing d₀ (set d i 0) (i + 1)
-zeroing_more {d₀} {d} {i} z h =
-    let l : i < length d₀ = omega (arith, z.same) in
-    record { within = omega arith; cells = ap (λ (x : List ℕ). set x i 0) z.cells ∙ fill_more i 0 d₀ l; same = length-set d i 0 ∙ z.same }
-
-pub zeroing_end : {d₀ d : List ℕ} {i : ℕ} → Zeroing d₀ d i → length d ≤ i → d ≡ replicate (length d₀) 0
-zeroing_end {d₀} {d} {i} z k =
-    let n : i ≡ length d₀ = omega (arith, z.within, z.same) in
-    let past : length d₀ ≤ i = omega arith in
-    z.cells ∙ rw (drop_of_length-le d₀ past, append-nil, n)
 
 -- a lent part that comes back zeroed
 pub put_zeroed : (a n : ℕ) (xs ys : List ℕ) → a + n ≤ length xs → ys ≡ replicate (length (take (a + n - a) (drop a xs))) 0

@@ -1,9 +1,9 @@
--- Laws on encodings: their lengths, how a wide number splits, and the number that its bytes spell.
+-- Laws on encodings: their lengths, and the number that bytes spell.
 use Prim.Native.Nat.{ℕ, zero, suc, ◌+◌, ◌*◌, ◌/◌, ◌%◌, ◌^◌, ◌<◌}
 use mathlib.Core.Path.{◌≡◌, refl, sym, ap, ◌∙◌}
 use mathlib.Core.Bool.{Bool, cond}
 use mathlib.Core.List.{List, [], ◌∷◌, ◌++◌}
-use native.Mathlib.Nat.{zero-add, suc-add, add_comm, add-mul, zero-mul, mul_assoc, pow-succ', one-le-pow, div-div-eq-div-mul, div-one, mod-one}
+use native.Mathlib.Nat.{add-mul, zero-mul, mul_assoc, pow-succ', one-le-pow, div-one, mod-one}
 use native.Mathlib.Omega.{arith}
 use lib.Pow.{pow-add}
 use lib.Arith.{mod-mul}
@@ -49,12 +49,6 @@ opaque-fours d = rw (length-opaque d) (omega arith)
 
 -- ---- numbers of any width
 
--- a number of j + k bytes: what lies above its last k bytes in j bytes, then its last k bytes
-pub be-split : (j k n : ℕ) → be (j + k) n ≡ be j (n / 256 ^ k) ++ be k n
-unfolding be
-be-split zero k n = rw (zero-add k)
-be-split (suc j) k n = rw (suc-add j k, be-split j k n, div-div-eq-div-mul n (256 ^ k) (256 ^ j), ← pow-add 256 k j, add_comm k j)
-
 pos : (k : ℕ) → zero < 256 ^ k
 pos k = one-le-pow k 256 (omega arith)
 
@@ -73,17 +67,3 @@ value_append (x ∷ xs) ys =
 pub u32-bytes : (v : ℕ) → u32 v ≡ v / 16777216 % 256 ∷ v / 65536 % 256 ∷ v / 256 % 256 ∷ v % 256 ∷ []
 unfolding u32 be
 u32-bytes v = rw (div-one v)
-
--- only the lower 32 bits count
-u32_mod : (v : ℕ) → u32 (v % 4294967296) ≡ u32 v
-u32_mod v =
-    let a : v % 4294967296 / 16777216 % 256 ≡ v / 16777216 % 256 = omega arith in
-    let b : v % 4294967296 / 65536 % 256 ≡ v / 65536 % 256 = omega arith in
-    let c : v % 4294967296 / 256 % 256 ≡ v / 256 % 256 = omega arith in
-    let d : v % 4294967296 % 256 ≡ v % 256 = omega arith in
-    rw (u32-bytes (v % 4294967296), u32-bytes v, a, b, c, d)
-
--- a number of eight bytes is written in two halves
-pub u64-split : (v : ℕ) → u64 v ≡ u32 (v / 4294967296) ++ u32 (v % 4294967296)
-unfolding u64 u32
-u64-split v = be-split 4 4 v ∙ ap (λ (l : List ℕ). u32 (v / 4294967296) ++ l) (sym (u32_mod v))

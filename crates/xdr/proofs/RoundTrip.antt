@@ -8,7 +8,7 @@ use native.Mathlib.Numerals.{sub-one}
 use native.Mathlib.Omega.{arith}
 use lib.ListN.{length, get_or, take, drop, replicate, length-append, length-drop, length-replicate}
 use lib.Seq.{take-append_seam, drop-append_seam, drop_at, drop-drop, length-take-le}
-use Rattle.xdr.specs.Bytes.{part_of, splice, Written}
+use Rattle.xdr.specs.Bytes.{part_of, splice}
 use Rattle.xdr.specs.Encode.{be, u32, bool, pad_bytes, opaque_size, opaque}
 use Rattle.xdr.specs.Decode.{got, fixed, value, number, up_to, padded, opaque_at, opaque_up_to}
 use Rattle.xdr.proofs.EncodeLaws.{length-be, value-be}
@@ -44,9 +44,6 @@ splice-stands m at bs h = record {
   inside = rw (length-splice m at bs h) (omega arith);
   there = drop_at (take at m) (bs ++ drop (at + length bs) m) at (length-take-le at m (omega arith));
 }
-
-pub written_stands : {bs : List ℕ} {n at next : ℕ} {x y : List ℕ} → at + n ≤ length x → Written bs n at x y next → Stands y at bs
-written_stands {bs} {n} {at} {next} {x} {y} h w = rw w.bytes (splice-stands x at bs (rw w.size h))
 
 -- ---- each pair of a writer and a reader
 

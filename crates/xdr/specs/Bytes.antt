@@ -1,5 +1,5 @@
 -- Parts of a list of bytes: one that is taken, and one that is stored over.
-use Rattle.std.specs.Prelude.{ℕ, ◌+◌, ◌≡◌, List, ◌++◌, length, take, drop}
+use Rattle.std.specs.Prelude.{ℕ, ◌+◌, List, ◌++◌, length, take, drop}
 use Rattle.xdr.specs.declared.bytes.Span.{Span}
 
 -- the bytes of a span, as far as they are there
@@ -9,9 +9,3 @@ part_of s d = take d.len (drop d.start s)
 -- m with the bytes bs from place `at` on
 unfoldable pub splice : List ℕ → ℕ → List ℕ → List ℕ
 splice m at bs = take at m ++ (bs ++ drop (at + length bs) m)
-
--- what a writer of the n bytes bs leaves: from place `at` on exactly bs, every other byte as before; it answers the place after them
-pub record Written (bs : List ℕ) (n at : ℕ) (before after : List ℕ) (next : ℕ) : Type 0 where
-  pub bytes : after ≡ splice before at bs
-  pub size : length bs ≡ n
-  pub place : next ≡ at + n

@@ -1,7 +1,6 @@
 pub mod Bytes
 pub mod Encode
 pub mod Decode
-pub mod Answers
 pub mod Reading
 pub mod Writing
 pub mod Layout

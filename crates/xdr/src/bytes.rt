@@ -1,15 +1,16 @@
-// Parts of slices of bytes.
-ghost use Rattle.std.specs.Prelude.{◌≡◌, length, replicate};
+// Parts of slices of bytes, and pads.
+ghost use Rattle.std.specs.Prelude.{◌≡◌};
+ghost use Rattle.xdr.specs.Encode.{pad_bytes};
 ghost use Rattle.xdr.specs.Part.{PartPromise};
 
-// Where bytes stand in a slice: `len` of them from `start` on.
+/// Where bytes stand in a slice: `len` of them from `start` on.
 #[derive(Clone, Copy, Debug, PartialEq, Eq)]
 pub struct Span {
     pub start: usize,
     pub len: usize,
 }
 
-// The bytes of a span, as far as the slice has them.
+/// The bytes of a span, as far as the slice has them.
 #[tactic(auto, unfolding(crate::specs::Bytes::part_of))]
 pub fn part(s: &[u8], d: Span) -> &[u8]
     ensures { PartPromise s.entry d result }
@@ -23,24 +24,9 @@ pub fn part(s: &[u8], d: Span) -> &[u8]
     &s[d.start..d.start + d.len]
 }
 
-// Copies `src` over `dst`, which is as long.
-pub fn copy(dst: &mut [u8], src: &[u8])
-    requires { length dst.old ≡ length src.now }
-    ensures { dst.new ≡ src.now }
+/// How many zero bytes follow `n` bytes of opaque data.
+pub fn padding(n: usize) -> usize
+    ensures { result ≡ pad_bytes n }
 {
-    let mut i = 0;
-    while i < src.len() {
-        dst[i] = src[i];
-        i += 1;
-    }
-}
-
-pub fn zero(dst: &mut [u8])
-    ensures { dst.new ≡ replicate (length dst.old) 0 }
-{
-    let mut i = 0;
-    while i < dst.len() {
-        dst[i] = 0;
-        i += 1;
-    }
+    (4 - n % 4) % 4
 }

@@ -5,10 +5,9 @@ ghost use Rattle.xdr.specs.Layout.{boolean};
 ghost use Rattle.xdr.specs.Reading.{parsed, itself};
 ghost use Rattle.xdr.specs.declared.bytes.Span.{Span};
 
-use crate::bytes::Span;
-use crate::write::padding;
+use crate::bytes::{Span, padding};
 
-// Bytes, and the place of the next one to read. The place may lie past their end.
+/// Bytes, and the place of the next one to read. The place may lie past their end.
 #[derive(Clone, Copy)]
 pub struct Reader<'a> {
     pub bytes: &'a [u8],
@@ -16,10 +15,10 @@ pub struct Reader<'a> {
 }
 
 impl<'a> Reader<'a> {
-    // The longest opaque data: XDR's own bound where a layout names none.
+    /// The longest opaque data: XDR's own bound where a layout names none.
     pub const MAX_LENGTH: u32 = 4294967295;
 
-    // A reader of all the bytes.
+    /// A reader of all the bytes.
     pub fn new(bytes: &'a [u8]) -> Self
         ensures bytes { result.bytes ≡ bytes.entry }
         ensures place { result.at ≡ 0 }
@@ -27,7 +26,7 @@ impl<'a> Reader<'a> {
         Reader { bytes, at: 0 }
     }
 
-    // A number of four bytes.
+    /// A number of four bytes.
     #[tactic(auto, unfolding(crate::specs::Decode::number, crate::specs::Decode::fixed, crate::specs::Decode::fixed_at, crate::specs::Bytes::part_of))]
     pub fn u32(&mut self) -> Option<u32>
         ensures value { parsed itself result self.new.at ≡ number 4 self.old.bytes.now self.old.at }
@@ -38,7 +37,7 @@ impl<'a> Reader<'a> {
         Some(u32::from_be_bytes([b[0], b[1], b[2], b[3]]))
     }
 
-    // A number of eight bytes.
+    /// A number of eight bytes.
     #[tactic(auto, unfolding(crate::specs::Decode::number, crate::specs::Decode::fixed, crate::specs::Decode::fixed_at, crate::specs::Bytes::part_of))]
     pub fn u64(&mut self) -> Option<u64>
         ensures value { parsed itself result self.new.at ≡ number 8 self.old.bytes.now self.old.at }
@@ -49,7 +48,7 @@ impl<'a> Reader<'a> {
         Some(u64::from_be_bytes([b[0], b[1], b[2], b[3], b[4], b[5], b[6], b[7]]))
     }
 
-    // A number of four bytes that is at most `limit`: an enumeration, a length.
+    /// A number of four bytes that is at most `limit`: an enumeration, a length.
     #[tactic(auto, unfolding(crate::specs::Decode::up_to))]
     pub fn up_to(&mut self, limit: u32) -> Option<u32>
         ensures value { parsed itself result self.new.at ≡ up_to limit self.old.bytes.now self.old.at }
@@ -71,7 +70,7 @@ impl<'a> Reader<'a> {
         Some(self.up_to(1)? == 1)
     }
 
-    // `n` bytes as they stand.
+    /// `n` bytes as they stand.
     #[tactic(auto, unfolding(crate::specs::Decode::fixed_at))]
     pub fn fixed(&mut self, n: usize) -> Option<Span>
         ensures value { parsed itself result self.new.at ≡ fixed_at n self.old.bytes.now self.old.at }
@@ -102,7 +101,7 @@ impl<'a> Reader<'a> {
         Some(())
     }
 
-    // Opaque data of at most `limit` bytes: its length, its bytes and a zero pad.
+    /// Opaque data of at most `limit` bytes: its length, its bytes and a zero pad.
     #[tactic(auto, unfolding(crate::specs::Decode::opaque_at))]
     pub fn opaque(&mut self, limit: u32) -> Option<Span>
         ensures value { parsed itself result self.new.at ≡ opaque_at limit self.old.bytes.now self.old.at }
@@ -114,7 +113,7 @@ impl<'a> Reader<'a> {
         Some(d)
     }
 
-    // An array of at most `limit` numbers of four bytes: its length, then the bytes of all.
+    /// An array of at most `limit` numbers of four bytes: its length, then the bytes of all.
     #[tactic(auto, unfolding(crate::specs::Decode::array_at))]
     pub fn array(&mut self, limit: u32) -> Option<Span>
         ensures value { parsed itself result self.new.at ≡ array_at limit self.old.bytes.now self.old.at }

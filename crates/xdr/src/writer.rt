@@ -4,7 +4,7 @@ ghost use Rattle.xdr.specs.Bytes.{splice};
 ghost use Rattle.xdr.specs.Encode.{u32, u64, bool, opaque, opaque_size, concat_map, array};
 ghost use Rattle.xdr.specs.Writing.{Wrote, WroteOver, HasRoom};
 
-use crate::write::padding;
+use crate::bytes::padding;
 
 #[tactic(auto, unfolding(crate::specs::Bytes::splice))]
 fn store(out: &mut [u8], at: usize, d: &[u8])
@@ -22,7 +22,7 @@ fn clear(out: &mut [u8], at: usize, n: usize)
     out[at..at + n].fill(0);
 }
 
-// Bytes, and the place where the next value goes.
+/// Bytes, and the place where the next value goes.
 #[derive(Drop)]
 pub struct Writer<'a> {
     pub out: &'a mut [u8],
@@ -30,7 +30,7 @@ pub struct Writer<'a> {
 }
 
 impl<'a> Writer<'a> {
-    // Bytes as they stand.
+    /// Bytes as they stand.
     pub fn bytes(&mut self, d: &[u8])
         requires { HasRoom (length d.now) self.old }
         ensures { Wrote d.now self.old self.new }
@@ -51,7 +51,7 @@ impl<'a> Writer<'a> {
         self.at = at + n;
     }
 
-    // A number of four bytes.
+    /// A number of four bytes.
     #[tactic(auto, unfolding(crate::specs::Encode::u32, crate::specs::Encode::be))]
     pub fn u32(&mut self, v: u32)
         requires { HasRoom 4 self.old }
@@ -60,7 +60,7 @@ impl<'a> Writer<'a> {
         self.bytes(&v.to_be_bytes());
     }
 
-    // A number of eight bytes.
+    /// A number of eight bytes.
     #[tactic(auto, unfolding(crate::specs::Encode::u64, crate::specs::Encode::be))]
     pub fn u64(&mut self, x: u64)
         requires { HasRoom 8 self.old }
@@ -77,7 +77,7 @@ impl<'a> Writer<'a> {
         self.u32(u32::from(b));
     }
 
-    // Opaque data: its length, its bytes and a zero pad.
+    /// Opaque data: its length, its bytes and a zero pad.
     #[tactic(auto, using(crate::proofs::EncodeLaws::lengths), unfolding(crate::specs::Encode::opaque))]
     pub fn opaque(&mut self, d: &[u8])
         requires { (length d.now < 2 ^ 32) × HasRoom (opaque_size (length d.now)) self.old }
@@ -98,7 +98,7 @@ impl<'a> Writer<'a> {
         }
     }
 
-    // An array of numbers: its length, then the numbers.
+    /// An array of numbers: its length, then the numbers.
     #[tactic(auto, using(crate::proofs::EncodeLaws::lengths), unfolding(crate::specs::Encode::array))]
     pub fn array(&mut self, ns: &[u32])
         requires { (length ns.now < 2 ^ 32) × HasRoom (4 + 4 * length ns.now) self.old }
@@ -108,7 +108,7 @@ impl<'a> Writer<'a> {
         self.numbers(ns);
     }
 
-    // Puts a number over the four bytes at another place. The next value goes where it would have gone.
+    /// Puts a number over the four bytes at another place. The next value goes where it would have gone.
     #[tactic(auto, unfolding(crate::specs::Encode::u32, crate::specs::Encode::be))]
     pub fn set_u32(&mut self, place: usize, n: u32)
         requires { place + 4 ≤ length self.old.out.now }

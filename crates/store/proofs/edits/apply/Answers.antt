@@ -1,22 +1,15 @@
 use mathlib.Core.Path.{refl, sym, ap}
 use native.Mathlib.Omega.{arith}
 use Rattle.std.specs.Prelude.{is_ok}
-use Rattle.store.proofs.ApplyLaws.{apply_none, file-inside, saved-room, saved-long, saved_plannable, apply_refused, apply_fills, apply_done}
+use Rattle.store.proofs.ApplyLaws.{apply_none, file-inside, saved-long, saved_plannable, apply_refused, apply_fills, apply_done}
 use Rattle.store.proofs.PassLaws.{err-not_ok}
 use Rattle.store.proofs.edits.apply.Goals as goal
 
 pub returns-then-e : goal.returns-then-e
 returns-then-e c = apply_none c.requires c.if-e.true
 
-pub offset_bounds-sizes-e : goal.offset_bounds-sizes-e
-offset_bounds-sizes-e c = omega (arith, file-inside c.requires, c.well_formed)
-
 pub bounds-sizes-e : goal.bounds-sizes-e
 bounds-sizes-e c = file-inside c.requires
-
-pub slice_bounds-saved-end : goal.slice_bounds-saved-end
-slice_bounds-saved-end c =
-    saved-room c.requires (omega arith) c.slot_count.ensures
 
 pub slice_bounds-old-end : goal.slice_bounds-old-end
 slice_bounds-old-end c =
@@ -34,9 +27,6 @@ returns-in_err-plan c =
 pub put_bytes-requires : goal.put_bytes-requires
 put_bytes-requires c =
     (record { sizes = c.args.sizes.now; words = c.args.words.now; mem = c.args.mem.now }, apply_fills c.requires (omega arith) c.plan.auto.counts refl c.plan.ensures (ap is_ok c.in_ok-plan.was))
-
-pub offset_bounds-sizes-e-2 : goal.offset_bounds-sizes-e-2
-offset_bounds-sizes-e-2 c = omega (arith, file-inside c.requires, c.well_formed)
 
 pub bounds-sizes-e-2 : goal.bounds-sizes-e-2
 bounds-sizes-e-2 c = file-inside c.requires

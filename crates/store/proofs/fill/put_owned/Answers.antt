@@ -1,15 +1,5 @@
-use native.Mathlib.Omega.{arith}
 use Rattle.store.proofs.FillLaws.{slot_index, write-asks, write_fills, copy-asks, copy_fills, none-owns, cut-asks, cut_fills}
 use Rattle.store.proofs.fill.put_owned.Goals as goal
-
-pub overflow_mul-slot : goal.overflow_mul-slot
-overflow_mul-slot c = omega (arith, slot_index c.requires.1.1.slot)
-
-pub overflow_add-slot : goal.overflow_add-slot
-overflow_add-slot c = omega (arith, slot_index c.requires.1.1.slot)
-
-pub offset_bounds-words-e : goal.offset_bounds-words-e
-offset_bounds-words-e c = omega (arith, slot_index c.requires.1.1.slot)
 
 pub bounds-words-e : goal.bounds-words-e
 bounds-words-e c = slot_index c.requires.1.1.slot

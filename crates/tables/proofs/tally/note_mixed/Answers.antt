@@ -6,4 +6,4 @@ use Rattle.tables.proofs.tally.note_mixed.Goals as goal
 pub returns : goal.returns
 returns c =
     let e : c.from.result ≡ bit (ltb 1 c.args.word) = search rules in
-    rw (c.block_or-b.ensures, e) (noted_mixed _ _ _)
+    rw (c.block_or-block.ensures, e) (noted_mixed _ _ _)

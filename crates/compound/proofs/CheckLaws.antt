@@ -1,8 +1,16 @@
 -- What the tests of an operation find.
 use Prim.Native.Nat.{ℕ, ◌+◌, ◌-◌, ◌*◌, ◌^◌, ◌<◌}
-use mathlib.Core.Path.{◌≡◌, ap}
+use mathlib.Core.Path.{◌≡◌, refl, sym, ap}
 use mathlib.Core.Bool.{true}
 use mathlib.Core.List.{List}
+use borrow.Author.Tests.{eq-eqb}
+use lib.ListN.{length}
+use lib.Dec.{eqb}
+use Rattle.std.proofs.Common.{Some, None, IfSome, is_some}
+use Rattle.std.specs.declared.option.Option as Std
+use Rattle.xdr.specs.Decode.{number, value}
+use Rattle.xdr.specs.Reading.{parsed, itself}
+use Rattle.xdr.proofs.NumberLaws.{no-fault, spelled}
 use native.Mathlib.Omega.{arith}
 use Rattle.rules.specs.Store.{Geometry, good_geometry, Store}
 use Rattle.rules.specs.Attributes.{file_attrs}
@@ -33,3 +41,9 @@ module _ (g : Geometry) (e : good_geometry g ≡ true) where
 pub attrs_same : (g : Geometry) (st : Store) (f : ℕ) (ws : List ℕ) (a : Asked) → AsksAs ws a → attrs_reply (file_attrs g st f) (asks a) ≡ getattr_reply g st f ws
 unfolding getattr_reply
 attrs_same g st f ws a h = ap (attrs_reply (file_attrs g st f)) (λ i x. h x i)
+
+-- a number read from bytes that are as many as it has
+pub whole-number : (k : ℕ) (r : Std.Option ℕ) (at : ℕ) (v : List ℕ) → length v ≡ k → parsed itself r at ≡ number k v 0
+    → (is_some r ≡ eqb (length v) k) × IfSome r (λ n. n ≡ value v)
+whole-number k None at v long e = absurd (no-fault k v long 0 refl (sym e))
+whole-number k (Some n) at v long e = (sym (eq-eqb (length v) k long), spelled k v long 0 refl (sym e))

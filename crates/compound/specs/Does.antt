@@ -1,5 +1,6 @@
 -- What is found of an operation before it is run: its first error, or what it does.
 use Rattle.std.specs.Prelude.{ℕ, ◌<◌, ◌≡◌, true, cond, ◌||◌, not, Some, Result, IfOk, IfErr}
+use Rattle.xdr.specs.declared.bytes.Span.{Span}
 use Rattle.xdr.specs.Bytes.{part_of}
 use Rattle.rules.specs.Lists.{first}
 use Rattle.rules.specs.Store.{Store}
@@ -32,6 +33,10 @@ abbrev pub AllowedIn : Context → Code.Does → Type 0
 AllowedIn c (Code.Does.Sets h) = Unit {0}
 AllowedIn c (Code.Does.Shows f v) = f < c.store.now.geometry.files
 AllowedIn c (Code.Does.Edits e) = ActKnown (geometry_of c.store.now.geometry) (store_in c) e.file e.off e.end e.act
+
+-- of READ, READ_PLUS and SEEK: the first error of what comes first, or else k
+abbrev pub first_reads : Context → Span → ℕ → ℕ
+first_reads c d k = cond (no_file (file_in c.handles.current)) NOFILEHANDLE (cond (not (read_stateid (part_of c.request.now d))) BAD_STATEID k)
 
 -- of COPY and CLONE: the first error of what comes first, or else k
 abbrev pub first_pair : Context → CloneArgs → ℕ → ℕ

@@ -2,6 +2,7 @@
 ghost use Rattle.std.specs.Prelude.{◌≡◌, true, false, ℕ, ◌+◌, ◌-◌, ◌<◌, ◌^◌, cond, eqb, leb, ◌||◌, not, length, OnOk, OnErr, IsErrOf, Some, ok_or};
 ghost use Rattle.rules.specs.Store.{good_geometry};
 ghost use Rattle.rules.specs.Run.{overlap};
+ghost use Rattle.xdr.specs.Bytes.{part_of};
 ghost use Rattle.tables.specs.Lent.{geometry_of};
 
 use crate::does::Does;
@@ -42,12 +43,12 @@ pub struct Context<'s, 'r> {
 impl<'r> Context<'_, 'r> {
     ghost use Rattle.std.specs.Prelude.{[], ◌∷◌, ◌*◌, ◌≤◌, IfOk, IfErr};
     ghost use Rattle.rules.specs.Lists.{first};
-    ghost use Rattle.rules.specs.Run.{too_far, too_big, past_source, source_count, uneven};
+    ghost use Rattle.rules.specs.Run.{read_stateid, too_far, too_big, past_source, source_count, uneven};
     ghost use Rattle.rules.specs.Store.{size_of};
     ghost use Rattle.wire.specs.Status.{number_of};
     ghost use Rattle.wire.specs.Decoded.{meaning};
     ghost use Rattle.compound.specs.Runner.{first_of};
-    ghost use Rattle.compound.specs.Does.{store_in, first_pair, Paired, Checked};
+    ghost use Rattle.compound.specs.Does.{store_in, first_reads, first_pair, Paired, Checked};
 
     fn current(&self) -> Result<usize, Status>
         ensures { result ≡ ok_or self.now.handles.current Status.NoFileHandle }
@@ -79,15 +80,22 @@ impl<'r> Context<'_, 'r> {
         Ok(end)
     }
 
+    // The current file, where the stateid passes for reading it.
+    fn readable(&self, stateid: Span) -> Result<usize, Status>
+        ensures err { IfErr result (λ e. (k : ℕ) → number_of e ≡ first_reads self.now stateid k) }
+        ensures failed { IfErr result (λ e. 0 < number_of e) }
+        ensures ok { IfOk result (λ f. (self.now.handles.current ≡ Some f) × (read_stateid (part_of self.now.request.now stateid) ≡ true)) }
+    {
+        let file = self.current()?;
+        ensure(read_stateid(self.request, stateid), Status::BadStateid)?;
+        Ok(file)
+    }
+
     #[tactic(auto, unfolding(rules::specs::Run::errors, rules::specs::Run::does))]
     fn put_fh(&self, handle: Span) -> Result<Does<'r>, Status>
         ensures { Checked self.now (meaning self.now.request.now (Operation.PutFh handle)) result }
     {
-        ensure(
-            xdr::part(self.request, handle).len() == 4,
-            Status::BadHandle,
-        )?;
-        let file = handle_file(self.request, handle);
+        let file = handle_file(xdr::part(self.request, handle)).ok_or(Status::BadHandle)?;
         ensure(file < self.store.geometry.files, Status::Stale)?;
         Ok(Does::Sets(Handles {
             current: Some(file),
@@ -96,29 +104,10 @@ impl<'r> Context<'_, 'r> {
     }
 
     #[tactic(auto, unfolding(rules::specs::Run::errors, rules::specs::Run::does))]
-    fn read(&self, args: ReadArgs) -> Result<Does<'r>, Status>
-        ensures { Checked self.now (meaning self.now.request.now (Operation.Read args)) result }
-    {
-        let file = self.current()?;
-        ensure(read_stateid(self.request, args.stateid), Status::BadStateid)?;
-        Ok(Does::Shows(file, View::Read(args)))
-    }
-
-    #[tactic(auto, unfolding(rules::specs::Run::errors, rules::specs::Run::does))]
-    fn read_plus(&self, args: ReadArgs) -> Result<Does<'r>, Status>
-        ensures { Checked self.now (meaning self.now.request.now (Operation.ReadPlus args)) result }
-    {
-        let file = self.current()?;
-        ensure(read_stateid(self.request, args.stateid), Status::BadStateid)?;
-        Ok(Does::Shows(file, View::ReadPlus(args)))
-    }
-
-    #[tactic(auto, unfolding(rules::specs::Run::errors, rules::specs::Run::does))]
     fn seek(&self, args: ReadArgs) -> Result<Does<'r>, Status>
         ensures { Checked self.now (meaning self.now.request.now (Operation.Seek args)) result }
     {
-        let file = self.current()?;
-        ensure(read_stateid(self.request, args.stateid), Status::BadStateid)?;
+        let file = self.readable(args.stateid)?;
         ensure(args.count <= 1, Status::UnionNotSupported)?;
         ensure(args.offset <= self.store.sizes[file], Status::NxIo)?;
         Ok(Does::Shows(file, View::Seek(args)))
@@ -272,7 +261,9 @@ impl<'r> Context<'_, 'r> {
             }
             Operation::GetFh => Ok(Does::Shows(self.current()?, View::Handle)),
             Operation::PutFh(handle) => self.put_fh(handle),
-            Operation::Read(args) => self.read(args),
+            Operation::Read(args) => {
+                Ok(Does::Shows(self.readable(args.stateid)?, View::Read(args)))
+            }
             Operation::RestoreFh => {
                 let saved = Some(self.saved()?);
                 Ok(Does::Sets(Handles {
@@ -291,7 +282,9 @@ impl<'r> Context<'_, 'r> {
             Operation::Allocate(args) => self.allocate(args),
             Operation::Copy(args) => self.copy(args),
             Operation::Deallocate(args) => self.deallocate(args),
-            Operation::ReadPlus(args) => self.read_plus(args),
+            Operation::ReadPlus(args) => {
+                Ok(Does::Shows(self.readable(args.stateid)?, View::ReadPlus(args)))
+            }
             Operation::Seek(args) => self.seek(args),
             Operation::Clone(args) => self.clone(args),
         }

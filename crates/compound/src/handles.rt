@@ -1,9 +1,8 @@
 // The handles of a compound, and a handle as it stands in a request: four bytes, the file's number.
-ghost use Rattle.std.specs.Prelude.{◌≡◌, length};
-ghost use Rattle.xdr.specs.Bytes.{part_of};
+ghost use Rattle.std.specs.Prelude.{◌≡◌, eqb, length, is_some, IfSome};
 ghost use Rattle.xdr.specs.Decode.{value};
 
-use xdr::{Cursor, Span, Word};
+use xdr::Reader;
 
 // The current and the saved file.
 #[derive(Clone, Copy, Debug, PartialEq, Eq)]
@@ -12,12 +11,13 @@ pub struct Handles {
     pub saved: Option<usize>,
 }
 
-// The file that the four bytes at d name.
-pub fn handle_file(s: &[u8], d: Span) -> usize
-    ensures { length (part_of s.now d) ≡ 4 → result ≡ value (part_of s.now d) }
+// The file that a handle names; none where it has not four bytes.
+pub fn handle_file(handle: &[u8]) -> Option<usize>
+    ensures fits { is_some result ≡ eqb (length handle.now) 4 }
+    ensures file { IfSome result (λ f. f ≡ value handle.now) }
 {
-    let Word::Value(f, _) = Cursor::new(0).word(xdr::part(s, d)) else {
-        return 0;
-    };
-    f as usize
+    if handle.len() != 4 {
+        return None;
+    }
+    Some(Reader::new(handle).u32()? as usize)
 }

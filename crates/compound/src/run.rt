@@ -18,7 +18,7 @@ use store::{NoSpace, Store};
 use wire::{Operation, Status, item, put_result};
 use xdr::{Reader, Writer};
 
-// Why a run ends before its last operation: the status of one, and the place of its fault.
+// The status of an operation, and the place of its fault.
 #[derive(Clone, Copy, Debug, PartialEq, Eq)]
 pub struct Stop {
     pub status: Status,
@@ -36,12 +36,11 @@ impl From<Status> for Stop {
     }
 }
 
-// How a run ended: the status of the last operation, how many were reached, and the place of the last one's fault.
+// How a run ended: how many operations were reached, and at what the last one stopped.
 #[derive(Clone, Copy, Debug, PartialEq, Eq)]
 pub struct Ended {
-    pub status: Status,
     pub count: u32,
-    pub place: Option<usize>,
+    pub stop: Stop,
 }
 
 // One operation, run and answered: the handles after it, or its error.
@@ -150,16 +149,14 @@ pub fn run(
             Ok(after) => handles = after,
             Err(stop) => {
                 return Ended {
-                    status: stop.status,
                     count: turn + 1,
-                    place: stop.place,
+                    stop,
                 };
             }
         }
     }
     Ended {
-        status: Status::Ok,
         count: operations,
-        place: None,
+        stop: Stop::from(Status::Ok),
     }
 }

@@ -16,7 +16,7 @@ ghost use Rattle.wire.specs.Decoded.{header_of};
 ghost use Rattle.compound.specs.Runner.{config_of, first_of, RanAll, ServedAs, call, outcome};
 
 use crate::check::ensure;
-use crate::run::{Ended, run};
+use crate::run::{Ended, Stop, run};
 use crate::served::{Refused, Served};
 use store::Store;
 use tables::{Dimensions, Geometry, Lent, Refusal, View};
@@ -50,9 +50,8 @@ fn answer(
 {
     match check_header(header) {
         Err(status) => Ended {
-            status,
             count: 0,
-            place: None,
+            stop: Stop::from(status),
         },
         Ok(()) => run(store, verifier, reader, header.ops, w),
     }
@@ -80,11 +79,11 @@ fn serve_operations(
     w.u32(0);
     let ended = answer(store, verifier, reader, header, w);
     w.set_u32(count, ended.count);
-    w.set_u32(0, ended.status.number());
+    w.set_u32(0, ended.stop.status.number());
     Served {
         read: reader.at,
         written: w.at,
-        place: ended.place,
+        place: ended.stop.place,
     }
 }
 

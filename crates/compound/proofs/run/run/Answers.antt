@@ -1,5 +1,6 @@
-use Rattle.std.proofs.Common.{rules, arith, ◌∙◌}
+use Rattle.std.proofs.Common.{rules, ◌≡◌, None, arith, ◌∙◌}
 use Rattle.xdr.proofs.EncodeLaws.{length-u64}
+use Rattle.wire.specs.declared.status.Status.{Status}
 use Rattle.store.specs.Whole.{whole, KeepsWhole}
 use Rattle.compound.proofs.WholeLaws.{limits}
 use Rattle.compound.proofs.RunLaws.{ready}
@@ -29,4 +30,5 @@ returns-in-Err-clause-ran c =
 
 pub returns-clause-ran : goal.returns-clause-ran
 returns-clause-ran c =
-    held-end _ _ _ _ _ _ _ c.loop-turn.handles (whole c.loop-turn.store) c.loop-turn.invariant.3 (omega (arith, c.loop-turn-test.false))
+    let stop : c.from.result ≡ record { status = Status.Ok; place = None } = search rules in
+    rw stop (held-end _ _ _ _ _ _ _ c.loop-turn.handles (whole c.loop-turn.store) c.loop-turn.invariant.3 (omega (arith, c.loop-turn-test.false)))

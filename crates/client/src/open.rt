@@ -1,5 +1,5 @@
 // A reply opened: all of it is read once before a result is handed out.
-ghost use Rattle.std.specs.Prelude.{◌≡◌, List, ℕ};
+ghost use Rattle.std.specs.Prelude.{◌≡◌, []};
 ghost use Rattle.xdr.specs.Reading.{parsed};
 ghost use Rattle.rules.specs.Calls.{reply_head};
 ghost use Rattle.rules.specs.Client.{not_opened};
@@ -22,7 +22,7 @@ pub struct NotOpened;
 
 impl NotOpened {
     pub fn number(self) -> u32
-        ensures { (s : List ℕ) → result ≡ (not_opened s).number }
+        ensures { result ≡ (not_opened []).number }
     {
         10
     }

@@ -2,23 +2,34 @@
 #![tactic(auto)]
 
 ghost use Rattle.std.specs.Prelude.{◌≡◌};
-ghost use Rattle.tables.specs.Lent.{geometry_of, tables};
+ghost use Rattle.tables.specs.Lent.{dimensions_of, tables};
 ghost use Rattle.rules.specs.Run.{config};
-ghost use Rattle.rules.specs.Lists.{bit};
 ghost use Rattle.rules.specs.Calls.{MakePromise};
-ghost use Rattle.compound.specs.Runner.{call};
+ghost use Rattle.compound.specs.Runner.{call, place_told};
 ghost use Rattle.server.specs.Exports.{SurveyedPromise, ShownPromise, ServePromise};
 
-use tables::Geometry;
+use tables::{Dimensions, Lent, Seen};
 
-fn geometry(files: u64, slots: u64, blocks: u64, block_size: u64) -> Geometry
-    ensures { geometry_of result ≡ record { F = files; S = slots; N = blocks; B = block_size } }
+// The place that is told where there is none.
+const NOWHERE: u64 = 4294967295;
+
+fn dimensions(files: u64, slots: u64, blocks: u64, block_size: u64) -> Dimensions
+    ensures { dimensions_of result ≡ record { F = files; S = slots; N = blocks; B = block_size } }
 {
-    Geometry {
+    Dimensions {
         files: files as usize,
         slots: slots as usize,
         blocks: blocks as usize,
         block_size: block_size as usize,
+    }
+}
+
+fn told_place(place: Option<usize>) -> u64
+    ensures { result ≡ place_told place }
+{
+    match place {
+        Some(place) => place as u64,
+        None => NOWHERE,
     }
 }
 
@@ -37,12 +48,16 @@ pub extern "C" fn store_make_empty(
         (tables sizes.old words.old mem.old) result
         (tables sizes.new words.new mem.new) }
 {
-    tables::make_empty(
-        geometry(files, slots, blocks, block_size),
+    let dimensions = dimensions(files, slots, blocks, block_size);
+    let mut lent = Lent {
         sizes,
         words,
-        mem,
-    )
+        memory: mem,
+    };
+    match tables::make_empty(dimensions, &mut lent) {
+        Ok(()) => 0,
+        Err(refusal) => refusal.number(),
+    }
 }
 
 // Whether the store is sound, with its used and owed blocks: 0, or refusal 1, 2 or 3 and zero counts.
@@ -60,20 +75,22 @@ pub extern "C" fn store_survey(
     ensures { SurveyedPromise (record { F = files; S = slots; N = blocks; B = block_size })
         (tables sizes.now words.now mem.now) result counts.new }
 {
-    let c = tables::survey(
-        geometry(files, slots, blocks, block_size),
+    let dimensions = dimensions(files, slots, blocks, block_size);
+    let seen = Seen {
         sizes,
         words,
-        mem,
-    );
-    *counts = [c.used as u64, c.owed as u64];
-    c.number
-}
-
-fn which(hole: bool) -> u64
-    ensures { result ≡ bit hole }
-{
-    if hole { 1 } else { 0 }
+        memory: mem,
+    };
+    match tables::survey(dimensions, seen) {
+        Ok(survey) => {
+            *counts = [survey.used as u64, survey.owed as u64];
+            0
+        }
+        Err(refusal) => {
+            *counts = [0, 0];
+            refusal.number()
+        }
+    }
 }
 
 // Shows a slot: 0, or refusal 1, 2, 3 or 8. `shown` gets the slice that has the slot's part, 0 for the memory and 1 for the page,
@@ -95,14 +112,21 @@ pub extern "C" fn store_slot_view<'a>(
     ensures { ShownPromise (record { F = files; S = slots; N = blocks; B = block_size })
         (tables sizes.now words.now mem.now) page.now file slot result shown.new }
 {
-    let g = geometry(files, slots, blocks, block_size);
-    let f = file as usize;
-    let k = slot as usize;
-    let kind = tables::slot_kind(g, sizes, words, mem, page, f, k);
-    let place = tables::slot_place(g, sizes, words, mem, page, f, k);
-    let view = tables::slot_view(g, sizes, words, mem, page, f, k);
-    *shown = [which(kind.hole), place.start as u64, view.len() as u64];
-    kind.number
+    let dimensions = dimensions(files, slots, blocks, block_size);
+    let seen = Seen {
+        sizes,
+        words,
+        memory: mem,
+    };
+    let file = file as usize;
+    let slot = slot as usize;
+    let view = tables::slot_view(dimensions, seen, page, file, slot);
+    let (number, hole, start) = match tables::slot_place(dimensions, seen, page, file, slot) {
+        Ok(place) => (0, place.hole, place.start),
+        Err(refusal) => (refusal.number(), true, 0),
+    };
+    *shown = [u64::from(hole), start as u64, view.len() as u64];
+    number
 }
 
 // Serves a compound: 0, or refusal 1 to 6. `told` gets the bytes read and written, zero on a refusal, and the place where the
@@ -127,8 +151,21 @@ pub extern "C" fn compound_serve(
         result told.new reply.new
         (tables sizes.new words.new mem.new) }
 {
-    let g = geometry(files, slots, blocks, block_size);
-    let s = compound::serve(g, sizes, words, mem, verifier, request, reply);
-    *told = [s.read as u64, s.written as u64, s.place as u64];
-    s.number
+    let dimensions = dimensions(files, slots, blocks, block_size);
+    let mut lent = Lent {
+        sizes,
+        words,
+        memory: mem,
+    };
+    match compound::serve(dimensions, &mut lent, verifier, request, reply) {
+        Ok(served) => {
+            let place = told_place(served.place);
+            *told = [served.read as u64, served.written as u64, place];
+            0
+        }
+        Err(refused) => {
+            *told = [0, 0, told_place(refused.place())];
+            refused.number()
+        }
+    }
 }

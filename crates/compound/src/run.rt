@@ -1,11 +1,13 @@
 // The operations of a compound, one after the other, up to the first that fails.
-ghost use Rattle.std.specs.Prelude.{◌≡◌, ℕ, ◌+◌, ◌≤◌, length, None};
-ghost use Rattle.xdr.specs.Writing.{HasRoom};
+ghost use Rattle.std.specs.Prelude.{◌≡◌, ℕ, ◌+◌, ◌++◌, ◌≤◌, length, None};
+ghost use Rattle.xdr.specs.Encode.{u32};
+ghost use Rattle.xdr.specs.Writing.{HasRoom, Wrote};
 ghost use Rattle.rules.specs.Operation.{items, item_at};
 ghost use Rattle.rules.specs.Fault.{fault_at};
 ghost use Rattle.rules.specs.Run.{perform, reached};
 ghost use Rattle.rules.specs.Calls.{fresh};
 ghost use Rattle.wire.specs.Decoded.{meaning};
+ghost use Rattle.wire.specs.Status.{number_of};
 ghost use Rattle.store.specs.Whole.{whole, KeepsWhole};
 ghost use Rattle.compound.specs.Runner.{state_of, config_of, Named, Answered, event_of, Turned, RanAll};
 
@@ -15,7 +17,7 @@ use crate::edits::put_edit;
 use crate::handles::Handles;
 use crate::reads::show;
 use store::{NoSpace, Store};
-use wire::{Operation, Status, item, put_result};
+use wire::{Operation, Status, item};
 use xdr::{Reader, Writer};
 
 // The status of an operation, and the place of its fault.
@@ -43,6 +45,14 @@ pub struct Ended {
     pub stop: Stop,
 }
 
+// The head of a result: the operation's number and the status.
+fn put_head(w: &mut Writer<'_>, number: u32, status: Status)
+    requires { HasRoom 8 w.old }
+    ensures { Wrote (u32 number ++ u32 (number_of status)) w.old w.new }
+{
+    wire::put_result(w, number, status.number());
+}
+
 // One operation, run and answered: the handles after it, or its error.
 fn perform(
     store: &mut Store<'_, '_>,
@@ -67,25 +77,25 @@ fn perform(
     };
     match context.check(operation) {
         Err(status) => {
-            put_result(w, number, status);
+            put_head(w, number, status);
             Err(status)
         }
         Ok(Does::Sets(after)) => {
-            put_result(w, number, Status::Ok);
+            put_head(w, number, Status::Ok);
             Ok(after)
         }
         Ok(Does::Shows(file, view)) => {
-            put_result(w, number, Status::Ok);
+            put_head(w, number, Status::Ok);
             show(store, file, view, w);
             Ok(handles)
         }
         Ok(Does::Edits(edit)) => match store.apply(&edit) {
             Err(NoSpace) => {
-                put_result(w, number, Status::NoSpace);
+                put_head(w, number, Status::NoSpace);
                 Err(Status::NoSpace)
             }
             Ok(()) => {
-                put_result(w, number, Status::Ok);
+                put_head(w, number, Status::Ok);
                 put_edit(&edit, verifier, w);
                 Ok(handles)
             }
@@ -113,7 +123,7 @@ fn step(
     match item(reader) {
         Ok(operation) => Ok(perform(store, verifier, reader.bytes, operation, handles, w)?),
         Err(ending) => {
-            put_result(w, ending.number, ending.status);
+            put_head(w, ending.number, ending.status);
             let place = (ending.status == Status::BadXdr).then_some(reader.at);
             reader.at = start;
             Err(Stop {

@@ -51,9 +51,6 @@ module _ (g : Geometry) (st : Store) (counts : List ℕ) (f : ℕ) (shaped : Sha
   pub slots-inside : f * g.S + g.S ≤ length st.words
   slots-inside = omega (arith, (lengths g st shaped.lengths).slots, mul-le-mul_right g.S ready.file)
 
-  pub room_small : g.S * g.B ≤ 4194304
-  room_small = file-most g is_good
-
   -- a size that does not fit
   pub size_fails : g.S * g.B < size_of st f → false ≡ file_passes g st f
   unfolding sound_file
@@ -122,9 +119,6 @@ module _ (g : Geometry) (st : Store) (counts : List ℕ) (f : ℕ) (shaped : Sha
       }
 
       module _ (fine : true ≡ sound_file g st f) where
-        pub file_passes_lem : true ≡ file_passes g st f
-        file_passes_lem = rw (sym formed_is ∙ sym ok, sym fine)
-
         past-zero : (k : ℕ) → end ≤ k → k < g.S → get_or (drop (f * g.S) st.words) k 0 ≡ 0
         past-zero k h l =
             get_or-drop (f * g.S) st.words k 0
@@ -136,16 +130,19 @@ module _ (g : Geometry) (st : Store) (counts : List ℕ) (f : ℕ) (shaped : Sha
         unfolding head-is
         head_counts p z = rw head-is (count_head p end g.S (drop (f * g.S) st.words) end-inside z past-zero)
 
-        -- what is counted of them is counted of all
-        pub file_counted : {held : ℕ} {reserved : Bool} {after : List ℕ}
-            → SlotsCounted head_slots counts held reserved after → SlotsCounted (slots_of g st.words f) counts held reserved after
-        file_counted scan = record {
-          noted = record {
-            long = scan.noted.long;
-            each = λ b h. scan.noted.each b h ∙ ap (λ (n : ℕ). get_or counts b 0 + n) (sym (head_counts (holds b) (ne_eqb 0 (suc b) (λ (q : 0 ≡ suc b). omega arith))));
-          };
-          slots = record {
-            held_is = scan.slots.held_is ∙ sym (head_counts (ltb 1) refl);
-            reserved_is = scan.slots.reserved_is ∙ ap (ltb 0) (sym (head_counts is_reserved refl));
-          };
-        }
+        -- the file passes, and what is counted of them is counted of all
+        pub file_passes_lem : {held : ℕ} {reserved : Bool} {after : List ℕ} → SlotsCounted head_slots counts held reserved after
+            → (true ≡ file_passes g st f) × SlotsCounted (slots_of g st.words f) counts held reserved after
+        file_passes_lem scan = (
+          rw (sym formed_is ∙ sym ok, sym fine),
+          record {
+            noted = record {
+              long = scan.noted.long;
+              each = λ b h. scan.noted.each b h ∙ ap (λ (n : ℕ). get_or counts b 0 + n) (sym (head_counts (holds b) (ne_eqb 0 (suc b) (λ (q : 0 ≡ suc b). omega arith))));
+            };
+            slots = record {
+              held_is = scan.slots.held_is ∙ sym (head_counts (ltb 1) refl);
+              reserved_is = scan.slots.reserved_is ∙ ap (ltb 0) (sym (head_counts is_reserved refl));
+            };
+          },
+        )

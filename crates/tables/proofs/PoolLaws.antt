@@ -92,9 +92,6 @@ module _ (l : List ℕ) (b : ℕ) (from : b ≤ first_zero l) where
 -- ---- how many are seen to be held
 
 module _ (l : List ℕ) (b : ℕ) (inside : b < length l) where
-  pub held_none : get_or l b 0 ≡ 0 → HeldFrom l b 0
-  held_none e = record { inside = omega arith; held = λ j h. absurd (omega arith); free = λ q. e }
-
   pub held_group : group_all (ltb 0) l b ≡ true → HeldFrom l b 16
   held_group e = record {
     inside = group_inside (ltb 0) l b e;
@@ -181,9 +178,6 @@ module _ (ws cs : List ℕ) (tallied : Tallied ws cs) (pool : InPool (length cs)
 -- ---- whether used and owed blocks fit the pool
 
 module _ {ws cs : List ℕ} (known : TableTrue ws cs) where
-  pub looked_up : InTable ws cs
-  looked_up = record { pool = known.pool; some = known.some; few = known.few }
-
   true-used : count (ltb 0) cs ≡ used ws
   true-used = tallied_used ws cs known.table known.pool
 

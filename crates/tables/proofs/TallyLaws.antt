@@ -1,5 +1,5 @@
 -- Laws on the table of holders: how slots are noted in it, one by one, in groups and file by file.
-use Prim.Native.Nat.{ℕ, zero, suc, pred, ◌+◌, ◌-◌, ◌/◌, ◌≤◌, ◌<◌}
+use Prim.Native.Nat.{ℕ, zero, suc, pred, ◌+◌, ◌-◌, ◌*◌, ◌/◌, ◌%◌, ◌≤◌, ◌<◌}
 use mathlib.Core.Path.{◌≡◌, refl, sym, ap, ◌∙◌}
 use mathlib.Core.Bool.{Bool, true, false, cond, ◌||◌}
 use mathlib.Core.List.{List}
@@ -32,6 +32,14 @@ pub noted_some : (k : ℕ) (cs : List ℕ) → k ≢ 0 → set cs (k - 1) (get_o
 unfolding noted
 noted_some zero cs h = absurd (h refl)
 noted_some (suc b) cs h = rw (sub-one (suc b))
+
+-- the place of a block where a hole reads a number too
+pub place-first : (w : ℕ) → cond (is_hole w) 0 (pred (w / 2)) ≡ pred (w / 2)
+place-first w = go (w / 2)
+  where
+    go : (k : ℕ) → cond (eqb k 0) 0 (pred k) ≡ pred k
+    go zero = refl
+    go (suc b) = rw (eqb-suc-zero b)
 
 -- a hole adds nothing, wherever it does
 pub noted_mixed : (w own : ℕ) (cs : List ℕ)
@@ -67,6 +75,17 @@ pub noted-turn : (ws cs : List ℕ) (i b : ℕ) → i < length ws → b < length
 noted-turn ws cs i b h k = rw (add-one i) (omega (arith, noted-at (get_or ws i 0 / 2) cs b k, count-drop (holds b) ws i h))
 
 -- ---- words tested
+
+-- two less than a word, modulo 2^32: the words of the blocks come first, those of holes last
+pub less-held : (n w : ℕ) → n ≤ 65536 → w ≤ 4294967295 → (w + 4294967294) % 4294967296 < 2 * n → bit (holds_one n w) ≡ 1
+less-held n w few word h = rw (lt-ltb 1 w (omega arith), le-leb (w / 2) n (omega arith))
+
+pub less_other : (n w : ℕ) → n ≤ 65536 → w ≤ 4294967295 → 2 * n ≤ (w + 4294967294) % 4294967296 → bit (holds_one n w) ≡ 0
+less_other n w few word h = go (dec_lt 1 w)
+  where
+    go : Dec (1 < w) → bit (holds_one n w) ≡ 0
+    go (yes l) = rw (lt-ltb 1 w l, lt-leb (w / 2) n (omega arith))
+    go (no d) = rw (le-ltb 1 w (omega (arith, d)))
 
 -- a word names one of n blocks or none: it holds one of them or is a hole's
 one_or_hole : (n w : ℕ) → bit (holds_one n w) + bit (leb w 1) ≡ bit (leb (w / 2) n)

@@ -52,7 +52,7 @@ pub fn slots_of(size: usize, block_size: usize) -> usize
 }
 
 /// Whether a file is sound. Of the block memory only the bytes past the size, in its last slot's block, are read.
-pub fn file_sound(view: View<'_>, file: usize) -> bool
+pub fn file_sound(view: View<'_, '_>, file: usize) -> bool
     requires { FileKnown (geometry_of view.geometry) (view_store view) file }
     ensures { result ≡ sound_file (geometry_of view.entry.geometry) (view_store view.entry) file }
 {

@@ -22,6 +22,7 @@ pub struct Geometry {
     pub slots: usize,
     pub blocks: usize,
     pub block_size: usize,
+    // `limits` follows from `good`: it stands here so that bounds are found.
     pub ghost good: { good_geometry (numbers files slots blocks block_size) ≡ true },
     pub ghost limits: { Good (numbers files slots blocks block_size) },
 }

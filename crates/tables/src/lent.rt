@@ -15,21 +15,22 @@ pub struct Lent<'a> {
     pub memory: &'a mut [u8],
 }
 
-/// The same, only looked at.
+/// The same, only looked at. What is shown of the memory does not hold the other tables.
 #[derive(Clone, Copy)]
-pub struct Seen<'a> {
-    pub sizes: &'a [u64],
-    pub words: &'a [u32],
+pub struct Seen<'t, 'a> {
+    pub sizes: &'t [u64],
+    pub words: &'t [u32],
     pub memory: &'a [u8],
 }
 
 /// Tables looked at that have the lengths of their geometry.
 #[derive(Clone, Copy)]
-pub struct View<'a> {
+pub struct View<'t, 'a> {
     pub geometry: Geometry,
-    pub sizes: &'a [u64],
-    pub words: &'a [u32],
+    pub sizes: &'t [u64],
+    pub words: &'t [u32],
     pub memory: &'a [u8],
+    // `fits` follows from `lengths`: it stands here so that bounds are found.
     pub ghost lengths: { good_lengths (geometry_of geometry) (tables sizes.now words.now memory.now) ≡ true },
     pub ghost fits: { Lengths (geometry_of geometry) (tables sizes.now words.now memory.now) },
 }
@@ -37,7 +38,7 @@ pub struct View<'a> {
 impl Lent<'_> {
     ghost use Rattle.tables.specs.Loans.{lent_store, seen_store};
 
-    pub fn seen(&self) -> Seen<'_>
+    pub fn seen(&self) -> Seen<'_, '_>
         ensures { seen_store result ≡ lent_store self.now }
     {
         Seen {
@@ -48,7 +49,7 @@ impl Lent<'_> {
     }
 }
 
-impl<'a> Seen<'a> {
+impl<'t, 'a> Seen<'t, 'a> {
     ghost use Rattle.std.specs.Prelude.{IfOk};
     ghost use Rattle.rules.specs.Calls.{make_refusal};
     ghost use Rattle.tables.specs.Lent.{dimensions_of};
@@ -57,7 +58,7 @@ impl<'a> Seen<'a> {
 
     /// The tables of these dimensions, if they lie inside the limits and the tables have their lengths.
     #[tactic(auto, unfolding(rules::specs::Store::good_lengths, rules::specs::Store::good_geometry, rules::specs::Store::good_block_size, rules::specs::Calls::make_refusal))]
-    pub fn view(self, dimensions: Dimensions) -> Result<View<'a>, Refusal>
+    pub fn view(self, dimensions: Dimensions) -> Result<View<'t, 'a>, Refusal>
         ensures refusal { refusal_told result ≡ make_refusal (dimensions_of dimensions) (seen_store self.entry) }
         ensures geometry { IfOk result (λ v. geometry_of v.geometry ≡ dimensions_of dimensions) }
         ensures store { IfOk result (λ v. view_store v ≡ seen_store self.entry) }

@@ -22,7 +22,7 @@ pub use lent::{Lent, Seen, View};
 pub use make::make_empty;
 pub use pool::{fits_pool, lowest_free, takes_block};
 pub use refusal::Refusal;
-pub use sound::{judge_tables, survey, survey_tables};
+pub use sound::{judge_tables, survey};
 pub use space::{Space, file_space};
 pub use view::{Place, slot_place, slot_view};
 pub use words::set_word;

@@ -76,8 +76,8 @@ pub fn owed_slots(words: &[u32], counts: &[u32]) -> usize
     sum
 }
 
-/// The same where that is counted of the slots, and so many blocks are used. Without a reserved slot
-/// nothing is owed. Where each slot that holds a block holds it alone, reserved holes are.
+/// How many slots owe a block, where the slots that hold one and the used blocks are counted. Without a reserved slot nothing is owed.
+/// Where each slot that holds a block holds it alone, reserved holes are.
 pub fn owed_of(counted: Counted, used: usize, words: &[u32], counts: &[u32]) -> usize
     requires { OwedKnown counted.held used counted.reserved words.now counts.now }
     ensures { result ≡ count (owes_by counts.now) words.now }
@@ -91,9 +91,9 @@ pub fn owed_of(counted: Counted, used: usize, words: &[u32], counts: &[u32]) -> 
     owed_slots(words, counts)
 }
 
-/// Whether used and owed blocks fit the pool, where that is counted of the slots. They are counted only
-/// where they may not fit: nothing is owed without a reserved slot, and they are never more than the slots that hold a block and those
-/// that are reserved.
+/// Whether used and owed blocks fit the pool, where the slots that hold a block are counted. Used and owed blocks are counted only where
+/// they may not fit: nothing is owed without a reserved slot, and they are never more than the slots that hold a block and those that are
+/// reserved.
 pub fn fits_of(counted: Counted, words: &[u32], counts: &[u32]) -> bool
     requires { RoomKnown counted.held counted.reserved words.now counts.now }
     ensures { result ≡ fits_pool (length counts.now) words.now }
@@ -108,7 +108,7 @@ pub fn fits_of(counted: Counted, words: &[u32], counts: &[u32]) -> bool
     used + owed_of(counted, used, words, counts) <= counts.len()
 }
 
-/// The same, counting those slots.
+/// Whether used and owed blocks fit the pool. The slots that hold a block are counted.
 pub fn fits_pool(words: &[u32], counts: &[u32]) -> bool
     requires { TableTrue words.now counts.now }
     ensures { result ≡ fits_pool (length counts.now) words.now }

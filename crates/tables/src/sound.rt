@@ -17,7 +17,7 @@ use crate::refusal::Refusal;
 use crate::tally::scan_and_note;
 
 // Tests a file, and notes its slots; those behind its end hold nothing.
-fn test_file(view: View<'_>, counts: &mut [u32], file: usize) -> Option<Counted>
+fn test_file(view: View<'_, '_>, counts: &mut [u32], file: usize) -> Option<Counted>
     requires { FileReady (geometry_of view.geometry) (view_store view) counts.old file }
     ensures passes { is_some result ≡ file_passes (geometry_of view.entry.geometry) (view_store view.entry) file }
     ensures counted { IfSome result (λ c. SlotsCounted (slots_of (geometry_of view.entry.geometry) view.entry.words.now file) counts.old c.held c.reserved counts.new) }
@@ -37,7 +37,7 @@ fn test_file(view: View<'_>, counts: &mut [u32], file: usize) -> Option<Counted>
 }
 
 // Tests tables file by file. `counts` has a zero for each block; where they pass it is the table of holders afterwards.
-fn test_tables(view: View<'_>, counts: &mut [u32]) -> Option<Counted>
+fn test_tables(view: View<'_, '_>, counts: &mut [u32]) -> Option<Counted>
     requires { counts.old ≡ replicate view.geometry.blocks 0 }
     ensures passes { is_some result ≡ tables_pass (geometry_of view.entry.geometry) (view_store view.entry) }
     ensures counted { IfSome result (λ c. RoomKnown c.held c.reserved view.entry.words.now counts.new) }
@@ -53,7 +53,7 @@ fn test_tables(view: View<'_>, counts: &mut [u32]) -> Option<Counted>
 }
 
 /// Whether the store is sound. Nothing is counted that need not be.
-pub fn judge_tables(view: View<'_>, counts: &mut [u32]) -> bool
+pub fn judge_tables(view: View<'_, '_>, counts: &mut [u32]) -> bool
     requires { counts.old ≡ replicate view.geometry.blocks 0 }
     ensures { TableJudged (geometry_of view.entry.geometry) (view_store view.entry) result counts.new }
 {
@@ -64,7 +64,7 @@ pub fn judge_tables(view: View<'_>, counts: &mut [u32]) -> bool
 }
 
 // The used and owed blocks, by a table that has a zero for each block.
-fn survey_in(view: View<'_>, counts: &mut [u32]) -> Result<Survey, Refusal>
+fn survey_in(view: View<'_, '_>, counts: &mut [u32]) -> Result<Survey, Refusal>
     requires { counts.old ≡ replicate view.geometry.blocks 0 }
     ensures { SurveyPromise (geometry_of view.entry.geometry) (view_store view.entry) (refusal_told result) (used_told result) (owed_told result) }
 {
@@ -81,7 +81,7 @@ fn survey_in(view: View<'_>, counts: &mut [u32]) -> Result<Survey, Refusal>
 
 // The same with a table of its own, in a frame of its own: a small table is cleared faster.
 #[inline(never)]
-fn survey_with<const N: usize>(view: View<'_>) -> Result<Survey, Refusal>
+fn survey_with<const N: usize>(view: View<'_, '_>) -> Result<Survey, Refusal>
     requires fits { view.geometry.blocks ≤ N }
     requires small { N ≤ 65536 }
     ensures { SurveyPromise (geometry_of view.entry.geometry) (view_store view.entry) (refusal_told result) (used_told result) (owed_told result) }
@@ -91,7 +91,7 @@ fn survey_with<const N: usize>(view: View<'_>) -> Result<Survey, Refusal>
 }
 
 /// The survey of tables that have their lengths. Pools of few blocks have smaller tables.
-pub fn survey_tables(view: View<'_>) -> Result<Survey, Refusal>
+pub fn survey_tables(view: View<'_, '_>) -> Result<Survey, Refusal>
     ensures { SurveyPromise (geometry_of view.entry.geometry) (view_store view.entry) (refusal_told result) (used_told result) (owed_told result) }
 {
     match view.geometry.blocks {
@@ -103,7 +103,7 @@ pub fn survey_tables(view: View<'_>) -> Result<Survey, Refusal>
 
 /// The used and owed blocks of a sound store, or a refusal.
 #[tactic(auto, unfolding(rules::specs::Calls::make_refusal, rules::specs::Calls::store_refusal, rules::specs::Calls::used_count, rules::specs::Calls::owed_count))]
-pub fn survey(dimensions: Dimensions, seen: Seen<'_>) -> Result<Survey, Refusal>
+pub fn survey(dimensions: Dimensions, seen: Seen<'_, '_>) -> Result<Survey, Refusal>
     ensures { SurveyPromise (dimensions_of dimensions) (seen_store seen.entry) (refusal_told result) (used_told result) (owed_told result) }
 {
     survey_tables(seen.view(dimensions)?)

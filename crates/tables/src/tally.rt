@@ -46,6 +46,16 @@ pub fn scan_words(words: &[u32], blocks: usize) -> Option<Counted>
     Some(Counted { held, reserved })
 }
 
+/// The block of a word, or `own` for a hole.
+pub fn block_or(word: u32, own: usize) -> usize
+    ensures { result ≡ cond (is_hole word) own (pred (word / 2)) }
+{
+    match word / 2 {
+        0 => own,
+        block => block as usize - 1,
+    }
+}
+
 /// One more holder of the block of a word; a hole has none.
 #[tactic(auto, using(crate::proofs::TallyLaws::noted_none))]
 pub fn note(counts: &mut [u32], word: u32)
@@ -64,16 +74,6 @@ fn note_held(counts: &mut [u32], word: u32)
     ensures { counts.new ≡ noted (word / 2) counts.old }
 {
     counts[(word / 2) as usize - 1] += 1;
-}
-
-/// The block of a word, or `own` for a hole.
-pub fn block_or(word: u32, own: usize) -> usize
-    ensures { result ≡ cond (is_hole word) own (pred (word / 2)) }
-{
-    match word / 2 {
-        0 => own,
-        block => block as usize - 1,
-    }
 }
 
 // The same of any slot without a branch: a hole adds nothing to the number at `own`.

@@ -21,13 +21,13 @@ pub struct Place {
 
 // The tables where a slot can be shown.
 #[tactic(auto, unfolding(rules::specs::Calls::make_refusal, rules::specs::Calls::store_refusal, rules::specs::Calls::slot_refusal))]
-fn slot_tables<'a>(
+fn slot_tables<'t, 'a>(
     dimensions: Dimensions,
-    seen: Seen<'a>,
+    seen: Seen<'t, 'a>,
     page: &[u8],
     file: usize,
     slot: usize,
-) -> Result<View<'a>, Refusal>
+) -> Result<View<'t, 'a>, Refusal>
     ensures refusal { refusal_told result ≡ slot_refusal (dimensions_of dimensions) (seen_store seen.entry) page.now file slot }
     ensures slot { IfOk result (λ v. (file < v.geometry.files) × (slot < v.geometry.slots)) }
     ensures same { IfOk result (λ v. (geometry_of v.geometry ≡ dimensions_of dimensions) × (view_store v ≡ seen_store seen.entry)) }
@@ -50,7 +50,7 @@ fn slot_tables<'a>(
 #[tactic(auto, unfolding(rules::specs::Calls::slot_is_hole, rules::specs::Calls::slot_start))]
 pub fn slot_place(
     dimensions: Dimensions,
-    seen: Seen<'_>,
+    seen: Seen<'_, '_>,
     page: &[u8],
     file: usize,
     slot: usize,
@@ -75,7 +75,7 @@ pub fn slot_place(
 #[tactic(auto, unfolding(rules::specs::Calls::slot_view, rules::specs::Calls::slot_is_hole, rules::specs::Calls::slot_start))]
 pub fn slot_view<'a>(
     dimensions: Dimensions,
-    seen: Seen<'a>,
+    seen: Seen<'_, 'a>,
     page: &'a [u8],
     file: usize,
     slot: usize,

@@ -122,9 +122,6 @@ impl Operation {
 
     pub const MAX_OPS: u32 = 12;
 
-    /// The highest number of 64 bits.
-    pub const MAX_LONG: u64 = 18446744073709551615;
-
     /// Bytes that a READ grants at most.
     pub const MAX_READ: u32 = 2048;
 

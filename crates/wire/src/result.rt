@@ -3,9 +3,7 @@ ghost use Rattle.std.specs.Prelude.{◌++◌};
 ghost use Rattle.xdr.specs.Encode.{u32, u64};
 ghost use Rattle.xdr.specs.Writing.{Wrote, HasRoom};
 ghost use Rattle.rules.specs.Operation.{write_reply, copy_reply, hole_piece, seek_result};
-ghost use Rattle.wire.specs.Status.{number_of};
 
-use crate::status::Status;
 use xdr::Writer;
 
 // FILE_SYNC4.
@@ -13,12 +11,12 @@ const FILE_SYNC: u32 = 2;
 
 /// The first two fields of a result: operation number and status.
 #[tactic(auto, using(xdr::proofs::EncodeLaws::lengths))]
-pub fn put_result(w: &mut Writer<'_>, number: u32, status: Status)
+pub fn put_result(w: &mut Writer<'_>, number: u32, status: u32)
     requires { HasRoom 8 w.old }
-    ensures { Wrote (u32 number ++ u32 (number_of status)) w.old w.new }
+    ensures { Wrote (u32 number ++ u32 status) w.old w.new }
 {
     w.u32(number);
-    w.u32(status.number());
+    w.u32(status);
 }
 
 /// WRITE's: count, committed, verifier.

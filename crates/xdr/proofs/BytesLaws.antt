@@ -5,7 +5,7 @@ use mathlib.Core.List.{List, ◌++◌, append_assoc}
 use native.Mathlib.Nat.{add_assoc, add-sub_of_le}
 use native.Mathlib.Omega.{arith}
 use lib.ListN.{length, get_or, take, drop, replicate, length-append, length-take, length-drop, get_or-append, length-replicate}
-use lib.Seq.{drop-append_seam, get_or-append-add, get_or-take, get_or-drop, length-take-le, drop-drop, take-append-add, drop-append-add, take-append_seam, take_at, drop_at}
+use lib.Seq.{take-take, take-append-le, drop-append_seam, get_or-append-add, get_or-take, get_or-drop, length-take-le, drop-drop, take-append-add, drop-append-add, take-append_seam, take_at, drop_at}
 use borrow.Rule.Slice.PartMut as P
 use Rattle.xdr.specs.Bytes.{splice}
 
@@ -100,3 +100,25 @@ pub put_zeroed : (a n : ℕ) (xs ys : List ℕ) → a + n ≤ length xs → ys �
 put_zeroed a n xs ys h e =
     let k : length (take (a + n - a) (drop a xs)) ≡ n = rw (length-take (a + n - a) (drop a xs), length-drop a xs) (omega arith) in
     put-splice a n xs ys (replicate n 0) (e ∙ ap (λ (m : ℕ). replicate m 0) k) (length-replicate n 0)
+
+-- two splices, the second just before the first, are one
+pub splice-before : (m : List ℕ) (at b : ℕ) (a c : List ℕ) → at + length a ≡ b → b + length c ≤ length m → splice (splice m b c) at a ≡ splice m at (a ++ c)
+unfolding splice
+splice-before m at b a c e h =
+    let t = take b m in
+    let r = drop (b + length c) m in
+    let k : length t ≡ b = length-take-le b m (omega arith) in
+    let front : take at (t ++ (c ++ r)) ≡ take at m = take-append-le at t (c ++ r) (omega arith) ∙ take-take at b m (omega arith) in
+    let back : drop (at + length a) (t ++ (c ++ r)) ≡ c ++ r = ap (λ (n : ℕ). drop n (t ++ (c ++ r))) (e ∙ sym k) ∙ drop-append_seam t (c ++ r) in
+    let sum : b + length c ≡ at + length (a ++ c) = omega (arith, length-append a c) in
+    rw (front, back, sum) (ap (λ (l : List ℕ). take at m ++ l) (sym (append_assoc a c (drop (at + length (a ++ c)) m))))
+
+-- a part written in front of another: both are one part, with the length of both, and the place after both is the first one's
+pub written-before : (a b x : List ℕ) (at : ℕ) {n m p q : ℕ} {y z : List ℕ} → at + n ≡ p → p + m ≤ length x
+    → y ≡ splice x p b → length b ≡ m → q ≡ p + m → z ≡ splice y at a → length a ≡ n
+    → (z ≡ splice x at (a ++ b)) × (length (a ++ b) ≡ n + m) × (q ≡ at + (n + m))
+written-before a b x at {p = p} e h f k l g j = (
+  g ∙ ap (λ (l : List ℕ). splice l at a) f ∙ splice-before x at p a b (omega (arith, e, j)) (omega (arith, h, k)),
+  omega (arith, length-append a b, j, k),
+  omega (arith, e, l),
+)

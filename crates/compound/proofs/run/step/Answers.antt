@@ -25,4 +25,4 @@ returns-in-Err-clause-turned c =
     let t = c.args.store.now in
     let place : place_told c.then_some-place.result ≡ fault_place c.in-Err.ending.status c.item.new.r.at = search rules in
     turned-bad (config_of t.geometry c.args.verifier) c.args.handles (whole t) c.args.reader.now.bytes.now c.args.reader.now.at
-    c.in-Err.ending.number c.in-Err.ending.status c.in-Err.ensures.value (place ∙ c.in-Err.ensures.fault) c.put_result.ensures
+    c.in-Err.ending.number c.in-Err.ending.status c.in-Err.ensures.value (place ∙ c.in-Err.ensures.fault) c.put_head.ensures

@@ -1,6 +1,6 @@
 use mathlib.Core.Path.{ap, ◌∙◌}
 use Rattle.std.proofs.Common.{is_some}
-use Rattle.tables.proofs.HeadLaws.{size_fails, scannable, words_fail, file_known, file_passes_lem, file_counted}
+use Rattle.tables.proofs.HeadLaws.{size_fails, scannable, words_fail, file_known, file_passes_lem}
 use Rattle.tables.proofs.SurveyLaws.{view_shaped}
 use Rattle.tables.proofs.sound.test_file.Goals as goal
 
@@ -20,9 +20,10 @@ file_sound-requires c =
 
 pub returns-clause-passes : goal.returns-clause-passes
 returns-clause-passes c =
-    file_passes_lem _ _ _ _ (view_shaped c.args.view) c.requires c.if-geometry-size.false (rw c.slots_of.ensures at c.in_ok-counted.ensures.formed) c.if-not-file_sound.ensures
+    (file_passes_lem _ _ _ _ (view_shaped c.args.view) c.requires c.if-geometry-size.false (rw c.slots_of.ensures at c.in_ok-counted.ensures.formed) c.if-not-file_sound.ensures
+    (rw c.slots_of.ensures at c.in_ok-counted.ensures.counted)).0
 
 pub returns-clause-counted : goal.returns-clause-counted
 returns-clause-counted c =
-    file_counted _ _ _ _ (view_shaped c.args.view) c.requires c.if-geometry-size.false (rw c.slots_of.ensures at c.in_ok-counted.ensures.formed) c.if-not-file_sound.ensures
-    (rw c.slots_of.ensures at c.in_ok-counted.ensures.counted)
+    (file_passes_lem _ _ _ _ (view_shaped c.args.view) c.requires c.if-geometry-size.false (rw c.slots_of.ensures at c.in_ok-counted.ensures.formed) c.if-not-file_sound.ensures
+    (rw c.slots_of.ensures at c.in_ok-counted.ensures.counted)).1

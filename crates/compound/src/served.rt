@@ -5,7 +5,7 @@ ghost use Rattle.compound.specs.declared.served.Refused.{Refused};
 
 use tables::Refusal;
 
-// A compound that was served: the bytes read and written, and the place where the request went wrong.
+/// A compound that was served: the bytes read and written, and the place where the request went wrong.
 #[derive(Clone, Copy, Debug, PartialEq, Eq)]
 pub struct Served {
     pub read: usize,
@@ -23,7 +23,7 @@ impl Served {
     pub const MIN_REPLY: usize = 32768;
 }
 
-// Why a call does nothing: the tables, the length of the request or of the reply, or a header that goes wrong at a place.
+/// Why a call does nothing: the tables, the length of the request or of the reply, or a header that goes wrong at a place.
 #[derive(Clone, Copy, Debug, PartialEq, Eq)]
 pub enum Refused {
     Tables(Refusal),
@@ -58,7 +58,7 @@ impl Refused {
         }
     }
 
-    // Where the header goes wrong.
+    /// Where the header goes wrong.
     pub fn place(self) -> Option<usize>
         ensures { place_told result ≡ refused_place self }
     {

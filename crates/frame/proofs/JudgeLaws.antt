@@ -79,20 +79,20 @@ fits-step j line out f = and_right (leb 65536 (length out)) _ (and_right (leb 81
 
 -- some parts are judged; with those that are left they are the text's
 pub record JudgeLeft (j₀ : Judge) (line₀ out₀ t : List ℕ) (st₀ : Store) (j : Judge) (line out : List ℕ) (st : Store) (rest : List ℕ) : Type 0 where
-  pub long : Lengths st₀ line₀ out₀ st line out
+  pub long : Lengths line₀ out₀ line out
   pub within_is : within j.step ≡ within j₀.step
   pub same : each_part judge_part (judging_of j line out st) (parts_of rest) ≡ judge_text (judging_of j₀ line₀ out₀ st₀) t
 
 pub judge_start : (j : Judge) (line out t : List ℕ) (st : Store) → JudgeLeft j line out t st j line out st t
 unfolding judge_text
-judge_start j line out t st = record { long = lengths-start st line out; within_is = refl; same = refl }
+judge_start j line out t st = record { long = lengths-start line out; within_is = refl; same = refl }
 
 module _ {j₀ : Judge} {line₀ out₀ t : List ℕ} {st₀ : Store} {j : Judge} {line out : List ℕ} {st : Store} {rest : List ℕ} (left : JudgeLeft j₀ line₀ out₀ t st₀ j line out st rest) where
   pub judge_fits : fits j₀ line₀ out₀ ≡ true → fits j line out ≡ true
   unfolding fits
   judge_fits f = rw (left.long.line_is, left.long.out_is, left.within_is) f
 
-  pub judge_more : {r : Judge} {p : Part} {line₁ out₁ rest₁ : List ℕ} {st₁ : Store} → parts_of rest ≡ p ∷ parts_of rest₁ → Lengths st line out st₁ line₁ out₁
+  pub judge_more : {r : Judge} {p : Part} {line₁ out₁ rest₁ : List ℕ} {st₁ : Store} → parts_of rest ≡ p ∷ parts_of rest₁ → Lengths line out line₁ out₁
       → JudgePromise (judge_part (judging_of j line out st) p) j r line₁ out₁ st₁ → JudgeLeft j₀ line₀ out₀ t st₀ r line₁ out₁ st₁ rest₁
   unfolding each_part
   judge_more {rest₁ = rest₁} e l p = record {

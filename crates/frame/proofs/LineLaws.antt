@@ -18,15 +18,18 @@ use Rattle.rules.specs.Run.{config}
 use Rattle.std.specs.Prelude.{Some, None}
 use Rattle.frame.specs.Hex.{RequestRead}
 use Rattle.frame.specs.Printing.{Printed}
+use Rattle.tables.specs.declared.refusal.Refusal.{Refusal}
+use Rattle.compound.specs.declared.served.Refused.{Refused}
+use Rattle.compound.specs.Runner.{refused_number}
 use Rattle.frame.specs.LineCall.{line_into, LinePromise}
 use Rattle.frame.proofs.HexLaws.{length-hex}
 
 -- ---- a request
 
 -- the call with the arguments of a frame
-pub frame_call_lem : {g : Geometry} {buf : List ℕ} (s : List ℕ) (st : Store) {o : Outcome Store} → g ≡ frame_geometry → buf ≡ replicate 32768 0
-    → Contract (record { config = config g (replicate 8 0); request = s; buffer = buf }) st o → Contract (frame_call s) st o
-frame_call_lem s st p r k = rw (← p, ← r) k
+pub frame_called : {d : Geometry} {buf : List ℕ} (s : List ℕ) (st : Store) {o : Outcome Store} → d ≡ frame_geometry → buf ≡ replicate 32768 0
+    → Contract (record { config = config d (replicate 8 0); request = s; buffer = buf }) st o → Contract (frame_call s) st o
+frame_called s st p r k = rw (← p, ← r) k
 
 module _ (s : List ℕ) (st : Store) {o : Outcome Store} (k : Contract (frame_call s) st o) where
   pub number_small : o.number < 10
@@ -60,12 +63,21 @@ module _ (s : List ℕ) (st : Store) {o : Outcome Store} (k : Contract (frame_ca
           mem_is = k.mem;
         })
 
-    pub request-served : o.number ≡ 0 → Printed (hex_line (take o.written o.reply)) out n after
-        → LinePromise (answer_request st s) out n after o.store
+    pub request-served : o.number ≡ 0 → Printed (hex_line (take o.written o.reply)) out n after → LinePromise (answer_request st s) out n after o.store
     unfolding answer_request answer
     request-served h w =
         let e = eq-eqb (answer (frame_call s) st).number 0 (sym k.number ∙ h) in
         rw (e, ← k.written, ← k.reply) (record { length_is = w.length_is; out_is = w.out_is; sizes_are = k.sizes; words_are = k.words; mem_is = k.mem })
+
+-- a refusal has a number
+pub refused_some : (e : Refused) → refused_number e ≢ 0
+refused_some (Refused.Tables Refusal.Geometry) h = omega (arith, h)
+refused_some (Refused.Tables Refusal.Length) h = omega (arith, h)
+refused_some (Refused.Tables Refusal.Unsound) h = omega (arith, h)
+refused_some (Refused.Tables Refusal.NoSlot) h = omega (arith, h)
+refused_some Refused.LongRequest h = omega (arith, h)
+refused_some Refused.ShortReply h = omega (arith, h)
+refused_some (Refused.BadHeader p) h = omega (arith, h)
 
 -- ---- a line
 

@@ -5,11 +5,11 @@ use mathlib.Core.Bool.{Bool, true, false, cond}
 use mathlib.Core.List.{List, [], ◌∷◌, ◌++◌, append_assoc, append-nil}
 use native.Mathlib.Omega.{arith}
 use lib.ListN.{length, set, take, drop, length-append, length-take, length-drop}
-use lib.Seq.{length-take-le, take_all, take_at, drop_at, drop-drop, drop-length, sets-eq, take-append-add, drop-append-add}
+use lib.Seq.{length-take-le, take_all, drop-drop, drop-length, sets-eq}
 use borrow.Author.Tests.{lt-ltb, le-ltb}
 use borrow.Rule.Slice.PartMut as P
 use Rattle.xdr.specs.Bytes.{splice}
-use Rattle.xdr.proofs.BytesLaws.{length-splice, splice-splice}
+use Rattle.xdr.proofs.BytesLaws.{length-splice, take_spliced, drop_spliced, splice-splice}
 use Rattle.rules.specs.Store.{Store}
 use Rattle.rules.specs.Line.{Line, answer_line}
 use Rattle.frame.specs.declared.text.Progress.{Progress}
@@ -36,21 +36,6 @@ unfolding splice
 back-splice text out last at h e =
     let rest : length (drop at out) ≤ length out - at = rw (length-drop at out) (omega arith) in
     rw (e, take_all (length out - at) (drop at out) rest, P.Post-is at (length out) out (omega arith), drop-length out, append-nil, drop-drop (length text) at out)
-
--- what stands before the end of a stored text, and behind it
-take_spliced : (m : List ℕ) (at : ℕ) (bs : List ℕ) → at ≤ length m → take (at + length bs) (splice m at bs) ≡ take at m ++ bs
-unfolding splice
-take_spliced m at bs h =
-    ap (λ (n : ℕ). take (n + length bs) (splice m at bs)) (sym (length-take-le at m h))
-    ∙ take-append-add (take at m) (bs ++ drop (at + length bs) m) (length bs)
-    ∙ ap (λ (l : List ℕ). take at m ++ l) (take_at bs (drop (at + length bs) m) (length bs) refl)
-
-drop_spliced : (m : List ℕ) (at : ℕ) (bs : List ℕ) → at ≤ length m → drop (at + length bs) (splice m at bs) ≡ drop (at + length bs) m
-unfolding splice
-drop_spliced m at bs h =
-    ap (λ (n : ℕ). drop (n + length bs) (splice m at bs)) (sym (length-take-le at m h))
-    ∙ drop-append-add (take at m) (bs ++ drop (at + length bs) m) (length bs)
-    ∙ drop_at bs (drop (at + length bs) m) (length bs) refl
 
 char-splice : (x : List ℕ) (k c : ℕ) → k < length x → set x k c ≡ splice x k (c ∷ [])
 unfolding splice
@@ -89,7 +74,7 @@ module _ (st : Store) (l out : List ℕ) (at : ℕ) (h : at + 65537 ≤ length o
       record {
         answers_are = rw (whole, end) (take_spliced out at (text ++ 10 ∷ []) (omega arith));
         fits = answer-fits;
-        rest_is = rw (whole, end) (drop_spliced out at (text ++ 10 ∷ []) (omega arith));
+        rest_is = rw (whole, end) (drop_spliced out at (text ++ 10 ∷ []) (omega arith) ∙ drop-drop (length (text ++ 10 ∷ [])) at out);
         store_is = store_is st l room p;
       }
 
@@ -160,7 +145,7 @@ drop_more a b n m h q =
 
 -- some parts are taken; with those left they are the whole text
 pub record ReadLeft (st₀ : Store) (line₀ out₀ text : List ℕ) (kept : ℕ) (st : Store) (line out : List ℕ) (p : Progress) (rest : List ℕ) : Type 0 where
-  pub long : Lengths st₀ line₀ out₀ st line out
+  pub long : Lengths line₀ out₀ line out
   pub few : p.kept ≤ 8193
   pub within : p.taken + length rest ≡ length text
   pub fits : p.written ≤ length out
@@ -205,7 +190,7 @@ module _ {st₀ : Store} {line₀ out₀ text : List ℕ} {kept : ℕ} {st : Sto
         omega (arith, written_is, g, ap (λ x. length x.answers) w.reading_is, length-take r.written out')
 
     pub read_more : {rest' : List ℕ} → parts_of rest ≡ q ∷ parts_of rest' → length q.text + cond q.ended 1 0 + length rest' ≡ length rest → 65537 ≤ length out - p.written
-        → r.kept ≤ 8193 → Lengths st line out st' line' out' → ReadLeft st₀ line₀ out₀ text kept st' line' out' r rest'
+        → r.kept ≤ 8193 → Lengths line out line' out' → ReadLeft st₀ line₀ out₀ text kept st' line' out' r rest'
     read_more {rest'} next size f g l =
         let roomy : length here.answers + 65537 ≤ length out₀ = omega (arith, written_is, left.fits, left.long.out_is) in
         record {

@@ -3,8 +3,8 @@ use Prim.Native.Nat.{ℕ, suc, ◌+◌, ◌/◌, ◌≤◌, ◌<◌}
 use mathlib.Core.Path.{◌≡◌, refl, sym, ap, ◌∙◌}
 use mathlib.Core.Bool.{Bool, true, false, cond, ◌&&◌, ◌||◌, true≢false}
 use mathlib.Core.Option.{some}
-use mathlib.Core.List.{List, [], ◌∷◌, ◌++◌, map}
-use mathlib.Core.Logic.{◌≢◌}
+use mathlib.Core.List.{List, [], ◌∷◌, ◌++◌, map, append-nil}
+use mathlib.Core.Logic.{◌≢◌, ◌⊎◌, inl, inr}
 use native.Mathlib.Nat.{add_assoc, zero-add}
 use native.Mathlib.Omega.{arith}
 use lib.ListN.{length, drop, length-append}
@@ -19,7 +19,7 @@ use Rattle.frame.specs.declared.judge.Judge.{Judge}
 use Rattle.frame.specs.Text.{Part, part, parts_of, lines_of, each_part}
 use Rattle.frame.specs.Reading.{keep}
 use Rattle.frame.specs.Recording.{lower, alike, same_line, refusal, byte_place, Verdict, same, differs, odd, verdict_from, verdict}
-use Rattle.frame.specs.Judging.{Stage, asking, asked, comparing, parted, Judging, judging, next, place_in, asks, replies_by, replies, judge_by, judge_part, judge_text, verdict_by, stage_of, judging_of, fits, judge_call, JudgePromise}
+use Rattle.frame.specs.Judging.{Stage, asking, asked, comparing, parted, Judging, judging, next, place_in, asks, replies_by, replies, judge_by, judge_part, judge_text, verdict_by, stage_of, judging_of, fits, judge_call, is_parted, JudgePromise}
 use Rattle.frame.specs.Printing.{verdict_call}
 use Rattle.frame.proofs.TextLaws.{pieces, keep-keep, answer-keep, keep_some, Proper, parts_proper, parts-few}
 use Rattle.frame.proofs.AlikeLaws.{alike_le, alike_le_right, alike-parted, alike-on}
@@ -250,3 +250,21 @@ judged-end {t} {line} {out} {j} {st} h b = rw b.fits_is (ap some (by ∙ ap verd
   where
     by : verdict_by j.pairs (stage_of j.step line out) ≡ verdict_of (judging_of j line out st)
     by = refl
+
+-- the same where nothing more comes, or a difference was found
+pub judged-told : {t line out : List ℕ} {j : Judge} {st : Store} (rest : List ℕ) → length (t ++ rest) < 18446744073709551616 → Judged t j line out st
+    → (is_parted j.step ≡ true) ⊎ (rest ≡ []) → verdict_call j line out ≡ some (verdict (lines_of (t ++ rest)))
+unfolding verdict_call judging_of
+judged-told {t} rest h b (inr e) =
+    judged-end (omega (arith, h, length-append t rest)) b
+    ∙ ap (λ (l : List ℕ). some (verdict (lines_of l))) (sym (ap (λ (r : List ℕ). t ++ r) e ∙ append-nil t))
+judged-told {t} {line} {out} {j} {st} rest h b (inl p) = go j.step refl p
+  where
+    go : (s : Step) → j.step ≡ s → is_parted s ≡ true → verdict_call j line out ≡ some (verdict (lines_of (t ++ rest)))
+    go (Step.Asking k) e q = absurd (true≢false (sym q))
+    go (Step.Asked k) e q = absurd (true≢false (sym q))
+    go (Step.Comparing n at) e q = absurd (true≢false (sym q))
+    go (Step.Parted place) e q =
+        let is : judging_of j line out st ≡ judging st j.pairs (parted place) = ap (λ s. judging st j.pairs (stage_of s line out)) e in
+        let called : verdict_call j line out ≡ some (verdict_by j.pairs (parted place)) = rw b.fits_is (ap (λ s. some (verdict_by j.pairs (stage_of s line out))) e) in
+        called ∙ ap some (sym (first-difference t rest st j.pairs place h (sym b.judging_is ∙ is)))

@@ -184,23 +184,13 @@ parts-few (c ∷ cs) = go (eqb c 10) (parts_of cs) (parts-few cs)
 
 -- ---- what is lent
 
--- tables and buffers keep their lengths
-pub record Lengths (st₀ : Store) (line₀ out₀ : List ℕ) (st : Store) (line out : List ℕ) : Type 0 where
-  pub sizes_are : length st.sizes ≡ length st₀.sizes
-  pub words_are : length st.words ≡ length st₀.words
-  pub mem_is : length st.mem ≡ length st₀.mem
+-- buffers keep their lengths
+pub record Lengths (line₀ out₀ line out : List ℕ) : Type 0 where
   pub line_is : length line ≡ length line₀
   pub out_is : length out ≡ length out₀
 
-pub lengths-start : (st : Store) (line out : List ℕ) → Lengths st line out st line out
-lengths-start st line out = record { sizes_are = refl; words_are = refl; mem_is = refl; line_is = refl; out_is = refl }
+pub lengths-start : (line out : List ℕ) → Lengths line out line out
+lengths-start line out = record { line_is = refl; out_is = refl }
 
-pub lengths-on : {st₀ st st' : Store} {line₀ line line' out₀ out out' : List ℕ} → Lengths st₀ line₀ out₀ st line out → Lengths st line out st' line' out'
-    → Lengths st₀ line₀ out₀ st' line' out'
-lengths-on a b = record {
-  sizes_are = b.sizes_are ∙ a.sizes_are;
-  words_are = b.words_are ∙ a.words_are;
-  mem_is = b.mem_is ∙ a.mem_is;
-  line_is = b.line_is ∙ a.line_is;
-  out_is = b.out_is ∙ a.out_is;
-}
+pub lengths-on : {line₀ line line' out₀ out out' : List ℕ} → Lengths line₀ out₀ line out → Lengths line out line' out' → Lengths line₀ out₀ line' out'
+lengths-on a b = record { line_is = b.line_is ∙ a.line_is; out_is = b.out_is ∙ a.out_is }

@@ -15,21 +15,9 @@ use Rattle.rules.specs.Store.{Store}
 use Rattle.rules.specs.Line.{Line, answer_line, answer_lines}
 use Rattle.frame.specs.declared.text.Progress.{Progress}
 use Rattle.frame.specs.Text.{Part, part, parts_of, lines_of, each_part}
-use Rattle.frame.specs.Reading.{keep, Reading, reading, goes_on, ends_with, read_part, read_parts, unready, read_text, read_end, ReadPromise, Taken}
+use Rattle.frame.specs.Reading.{keep, Reading, reading, goes_on, ends_with, read_part, read_parts, unready, read_text, read_end, ended, after, answers, ReadPromise, Taken}
 use Rattle.frame.proofs.BlockLaws.{index_le}
 use Rattle.frame.proofs.TextLaws.{parts_first, pieces, keep-keep, answer-keep, keep_some, Proper, parts_proper}
-
--- a line that was begun ends where the text does
-abbrev pub ended : Reading → List ℕ → Reading
-ended r [] = r
-ended r (c ∷ l) = read_part r (part [] true)
-
--- the answers to a text that follows the beginning l of a line
-abbrev pub after : Reading → List Part → List ℕ
-after r ps = (ended (each_part read_part r ps) (each_part read_part r ps).line).answers
-
-unfoldable pub answers : Store → List ℕ → List ℕ → List ℕ
-answers st l t = after (reading st l) (parts_of t)
 
 -- ---- the answers to its lines
 

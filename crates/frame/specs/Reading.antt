@@ -1,9 +1,10 @@
 -- The lines of a text served as it comes. Contracts cite these.
 use Rattle.std.specs.Prelude.{ℕ, ◌+◌, ◌≤◌, ◌≡◌, Bool, true, cond, ◌||◌, List, [], ◌∷◌, ◌++◌, length, take, drop, ltb, eqb}
 use Rattle.rules.specs.Store.{Store}
-use Rattle.rules.specs.Line.{Line, answer_line}
+use Rattle.xdr.specs.Encode.{concat_map}
+use Rattle.rules.specs.Line.{Line, answer_line, answer_lines}
 use Rattle.frame.specs.declared.text.Progress.{Progress}
-use Rattle.frame.specs.Text.{Part, parts_of, each_part}
+use Rattle.frame.specs.Text.{Part, part, parts_of, lines_of, each_part}
 
 -- of a line 8,193 characters are kept, one more than a request may have
 unfoldable pub keep : List ℕ → List ℕ → List ℕ
@@ -47,6 +48,24 @@ read_text line kept out st t =
 -- the end of the text ends the line that was begun
 unfoldable pub read_end : List ℕ → ℕ → List ℕ → Store → Reading
 read_end line kept out st = cond (eqb kept 0) (reading st []) (read_text line kept out st (10 ∷ []))
+
+-- ---- the whole of a text
+
+-- a line that was begun ends where the text does
+abbrev pub ended : Reading → List ℕ → Reading
+ended r [] = r
+ended r (c ∷ l) = read_part r (part [] true)
+
+abbrev pub after : Reading → List Part → List ℕ
+after r ps = (ended (each_part read_part r ps) (each_part read_part r ps).line).answers
+
+-- the answers to a text that follows the beginning l of a line
+unfoldable pub answers : Store → List ℕ → List ℕ → List ℕ
+answers st l t = after (reading st l) (parts_of t)
+
+-- one line out for each line of a text
+abbrev pub answers_to : Store → List ℕ → List ℕ
+answers_to st t = concat_map (λ l. l ++ 10 ∷ []) (answer_lines st (lines_of t))
 
 -- ---- what calls leave
 

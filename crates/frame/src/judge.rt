@@ -1,7 +1,7 @@
 // A recording judged as its text comes: requests are run, and their answers compared with the replies recorded.
 ghost use Rattle.std.specs.Prelude.{◌≡◌, true, ◌≤◌, length, take};
 ghost use Rattle.frame.specs.declared.judge.Step.{Step};
-ghost use Rattle.tables.specs.Lent.{tables};
+ghost use Rattle.tables.specs.Loans.{lent_store, KeepsLoan};
 ghost use Rattle.frame.specs.Recording.{lower, alike};
 ghost use Rattle.frame.specs.Parts.{part_of};
 ghost use Rattle.frame.specs.Judging.{next, place_in, Asks, Replies, Answers, judging_of, judge_part, judge_text, judge_call, within, fits, is_parted, JudgePromise, Untouched};
@@ -12,10 +12,11 @@ use crate::hex::Request;
 use crate::line::{MIN_OUT, serve_line};
 use crate::parts::{Part, Parts};
 use crate::text::keep;
+use tables::Lent;
 
-// Where a pair stands. `Asking(k)`: k characters are kept of the request's line, which has not ended. `Asked(k)`: it has,
-// and nothing of the reply's line came. `Comparing(n, at)`: the answer has n characters, and `at` of the reply's line came,
-// all alike. `Parted(place)`: the byte of the first difference.
+/// Where a pair stands. `Asking(k)`: k characters are kept of the request's line, which has not ended. `Asked(k)`: it has,
+/// and nothing of the reply's line came. `Comparing(n, at)`: the answer has n characters, and `at` of the reply's line came,
+/// all alike. `Parted(place)`: the byte of the first difference.
 #[derive(Clone, Copy, Debug, PartialEq, Eq)]
 pub enum Step {
     Asking(usize),
@@ -134,68 +135,53 @@ fn replies(answer: &[u8], at: usize, part: Part<'_>, pairs: u64) -> Judge
 }
 
 // The first part of the reply's line: the request is run.
-fn answers(
-    sizes: &mut [u64],
-    words: &mut [u32],
-    mem: &mut [u8],
-    request: &[u8],
-    out: &mut [u8],
-    part: Part<'_>,
-    pairs: u64,
-) -> Judge
+fn answers(lent: &mut Lent<'_>, request: &[u8], out: &mut [u8], part: Part<'_>, pairs: u64) -> Judge
     requires { 65536 ≤ length out.old }
-    ensures { Answers (tables sizes.old words.old mem.old) pairs request.now (part_of part.entry) result out.new
-        (tables sizes.new words.new mem.new) }
+    ensures answers { Answers (lent_store lent.old) pairs request.now (part_of part.entry) result out.new
+        (lent_store lent.new) }
+    ensures loan { KeepsLoan lent.old lent.new }
 {
-    let n = serve_line(sizes, words, mem, request, out);
+    let n = serve_line(lent, request, out);
     replies(&out[..n], 0, part, pairs)
 }
 
 // A part of a line.
 #[tactic(auto, unfolding(crate::specs::Judging::fits, crate::specs::Judging::judge_part, crate::specs::Judging::judging_of), using(crate::proofs::JudgeLaws::front_again))]
 fn judge_part(
-    sizes: &mut [u64],
-    words: &mut [u32],
-    mem: &mut [u8],
+    lent: &mut Lent<'_>,
     line: &mut [u8],
     out: &mut [u8],
     part: Part<'_>,
     j: Judge,
 ) -> Judge
     requires { fits j line.old out.old ≡ true }
-    ensures { JudgePromise
-        (judge_part (judging_of j line.old out.old (tables sizes.old words.old mem.old)) (part_of part.entry))
+    ensures judge_promise { JudgePromise
+        (judge_part (judging_of j line.old out.old (lent_store lent.old)) (part_of part.entry))
         j result line.new out.new
-        (tables sizes.new words.new mem.new) }
+        (lent_store lent.new) }
+    ensures loan { KeepsLoan lent.old lent.new }
 {
     match j.step {
         Step::Asking(k) => asks(line, k, part, j.pairs),
-        Step::Asked(k) => answers(sizes, words, mem, &line[..k], out, part, j.pairs),
+        Step::Asked(k) => answers(lent, &line[..k], out, part, j.pairs),
         Step::Comparing(n, at) => replies(&out[..n], at, part, j.pairs),
         Step::Parted(_) => j,
     }
 }
 
 // Part after part.
-fn judge_parts(
-    sizes: &mut [u64],
-    words: &mut [u32],
-    mem: &mut [u8],
-    line: &mut [u8],
-    out: &mut [u8],
-    text: &[u8],
-    j: Judge,
-) -> Judge
+fn judge_parts(lent: &mut Lent<'_>, line: &mut [u8], out: &mut [u8], text: &[u8], j: Judge) -> Judge
     requires { fits j line.old out.old ≡ true }
-    ensures { JudgePromise
-        (judge_text (judging_of j line.old out.old (tables sizes.old words.old mem.old)) text.now)
+    ensures judge_promise { JudgePromise
+        (judge_text (judging_of j line.old out.old (lent_store lent.old)) text.now)
         j result line.new out.new
-        (tables sizes.new words.new mem.new) }
+        (lent_store lent.new) }
+    ensures loan { KeepsLoan lent.old lent.new }
 {
     let mut judge = j;
     let mut parts = Parts { rest: text };
     while let Some(part) = parts.next() {
-        judge = judge_part(sizes, words, mem, line, out, part, judge);
+        judge = judge_part(lent, line, out, part, judge);
     }
     judge
 }
@@ -223,25 +209,24 @@ fn fits(j: Judge, line: &[u8], out: &[u8]) -> bool
 /// characters, and `out` the answer, with room for `MIN_OUT`; both go with the answer to the next call.
 #[tactic(auto, unfolding(crate::specs::Judging::judge_call))]
 pub fn judge_text(
-    sizes: &mut [u64],
-    words: &mut [u32],
-    mem: &mut [u8],
+    lent: &mut Lent<'_>,
     line: &mut [u8],
     out: &mut [u8],
     text: &[u8],
     j: Judge,
 ) -> Judge
     ensures judge_promise { JudgePromise
-        (judge_call j line.old out.old (tables sizes.old words.old mem.old) text.now)
+        (judge_call j line.old out.old (lent_store lent.old) text.now)
         j result line.new out.new
-        (tables sizes.new words.new mem.new) }
+        (lent_store lent.new) }
     ensures untouched { Untouched (fits j line.old out.old) j result
         line.old line.new out.old out.new }
+    ensures loan { KeepsLoan lent.old lent.new }
 {
     if !fits(j, line, out) {
         return j;
     }
-    judge_parts(sizes, words, mem, line, out, text, j)
+    judge_parts(lent, line, out, text, j)
 }
 
 /// Whether a difference was found, so that the rest of the recording says nothing.

@@ -1,6 +1,6 @@
 // The lines of a text that comes in pieces of any length: what is kept of a line, and the lines that end in a piece served.
 ghost use Rattle.std.specs.Prelude.{◌≡◌, ◌+◌, ◌^◌, ◌<◌, ◌≤◌, length, take};
-ghost use Rattle.tables.specs.Lent.{tables};
+ghost use Rattle.tables.specs.Loans.{lent_store, KeepsLoan};
 ghost use Rattle.rules.specs.Line.{answer_line};
 ghost use Rattle.frame.specs.Text.{parts_of};
 ghost use Rattle.frame.specs.Parts.{part_of};
@@ -9,6 +9,7 @@ ghost use Rattle.frame.specs.Reading.{Kept, Answered, reading, reading_of, read_
 use crate::hex::Request;
 use crate::line::serve_line;
 use crate::parts::{Part, Parts};
+use tables::Lent;
 
 /// After a call on a text: the characters taken of it, those kept of the line that has not ended, and those of the answers
 /// that were written.
@@ -24,7 +25,7 @@ impl Progress {
     pub const ROOM: usize = 65537;
 }
 
-// Adds a part of a line to what is kept of it, as far as it is kept.
+/// Adds a part of a line to what is kept of it, as far as it is kept.
 pub fn keep(line: &mut [u8], kept: usize, text: &[u8]) -> usize
     requires { (kept ≤ 8193) × (8193 ≤ length line.old) }
     ensures { Kept (take kept line.old) text.now result line.new }
@@ -35,30 +36,22 @@ pub fn keep(line: &mut [u8], kept: usize, text: &[u8]) -> usize
 }
 
 // A line's answer and a newline, at place `at` of `out`.
-fn answer(
-    sizes: &mut [u64],
-    words: &mut [u32],
-    mem: &mut [u8],
-    line: &[u8],
-    out: &mut [u8],
-    at: usize,
-) -> usize
+fn answer(lent: &mut Lent<'_>, line: &[u8], out: &mut [u8], at: usize) -> usize
     requires { at + 65537 ≤ length out.old }
-    ensures { Answered
-        (answer_line (tables sizes.old words.old mem.old) line.now)
+    ensures answered { Answered
+        (answer_line (lent_store lent.old) line.now)
         at out.old result out.new
-        (tables sizes.new words.new mem.new) }
+        (lent_store lent.new) }
+    ensures loan { KeepsLoan lent.old lent.new }
 {
-    let n = serve_line(sizes, words, mem, line, &mut out[at..]);
+    let n = serve_line(lent, line, &mut out[at..]);
     out[at + n] = b'\n';
     at + n + 1
 }
 
 // Takes a part of a line. A line that ends there is answered.
 fn serve_part(
-    sizes: &mut [u64],
-    words: &mut [u32],
-    mem: &mut [u8],
+    lent: &mut Lent<'_>,
     line: &mut [u8],
     out: &mut [u8],
     part: Part<'_>,
@@ -69,10 +62,11 @@ fn serve_part(
     requires line { 8193 ≤ length line.old }
     requires room { p.written + 65537 ≤ length out.old }
     ensures read_promise { ReadPromise
-        (read_part (reading_of p line.old out.old (tables sizes.old words.old mem.old)) (part_of part.entry))
+        (read_part (reading_of p line.old out.old (lent_store lent.old)) (part_of part.entry))
         result line.new out.old out.new
-        (tables sizes.new words.new mem.new) }
+        (lent_store lent.new) }
     ensures kept_bound { result.kept ≤ 8193 }
+    ensures loan { KeepsLoan lent.old lent.new }
 {
     let kept = keep(line, p.kept, part.text);
     let taken = p.taken + part.text.len();
@@ -86,27 +80,26 @@ fn serve_part(
     Progress {
         taken: taken + 1,
         kept: 0,
-        written: answer(sizes, words, mem, &line[..kept], out, p.written),
+        written: answer(lent, &line[..kept], out, p.written),
     }
 }
 
 // Takes part after part, as long as there is room for an answer.
 fn serve_parts(
-    sizes: &mut [u64],
-    words: &mut [u32],
-    mem: &mut [u8],
+    lent: &mut Lent<'_>,
     line: &mut [u8],
     out: &mut [u8],
     text: &[u8],
     kept: usize,
 ) -> Progress
     requires { (kept ≤ 8193) × (8193 ≤ length line.old) }
-    ensures { ReadPromise
+    ensures read_promise { ReadPromise
         (read_parts (length out.old)
-        (reading (tables sizes.old words.old mem.old) (take kept line.old))
+        (reading (lent_store lent.old) (take kept line.old))
         (parts_of text.now))
         result line.new out.old out.new
-        (tables sizes.new words.new mem.new) }
+        (lent_store lent.new) }
+    ensures loan { KeepsLoan lent.old lent.new }
 {
     let mut parts = Parts { rest: text };
     let mut p = Progress {
@@ -118,7 +111,7 @@ fn serve_parts(
         let Some(part) = parts.next() else {
             return p;
         };
-        p = serve_part(sizes, words, mem, line, out, part, p);
+        p = serve_part(lent, line, out, part, p);
     }
     p
 }
@@ -128,19 +121,18 @@ fn serve_parts(
 /// says how many stand there now. It stops where `out` has no room for an answer more.
 #[tactic(auto, unfolding(crate::specs::Reading::read_text, crate::specs::Reading::unready), using(crate::proofs::TextLaws::take_min))]
 pub fn serve_text(
-    sizes: &mut [u64],
-    words: &mut [u32],
-    mem: &mut [u8],
+    lent: &mut Lent<'_>,
     line: &mut [u8],
     out: &mut [u8],
     text: &[u8],
     kept: usize,
 ) -> Progress
     ensures read_promise { ReadPromise
-        (read_text line.old kept out.old (tables sizes.old words.old mem.old) text.now)
+        (read_text line.old kept out.old (lent_store lent.old) text.now)
         result line.new out.old out.new
-        (tables sizes.new words.new mem.new) }
+        (lent_store lent.new) }
     ensures stays { Stays (unready line.old kept) line.old line.new }
+    ensures loan { KeepsLoan lent.old lent.new }
 {
     if line.len() < Request::KEPT || Request::KEPT < kept {
         return Progress {
@@ -149,24 +141,18 @@ pub fn serve_text(
             written: 0,
         };
     }
-    serve_parts(sizes, words, mem, line, out, text, kept)
+    serve_parts(lent, line, out, text, kept)
 }
 
 /// The end of the text: a line that was begun ends there.
 #[tactic(auto, unfolding(crate::specs::Reading::read_end))]
-pub fn serve_end(
-    sizes: &mut [u64],
-    words: &mut [u32],
-    mem: &mut [u8],
-    line: &mut [u8],
-    out: &mut [u8],
-    kept: usize,
-) -> Progress
+pub fn serve_end(lent: &mut Lent<'_>, line: &mut [u8], out: &mut [u8], kept: usize) -> Progress
     ensures read_promise { ReadPromise
-        (read_end line.old kept out.old (tables sizes.old words.old mem.old))
+        (read_end line.old kept out.old (lent_store lent.old))
         result line.new out.old out.new
-        (tables sizes.new words.new mem.new) }
+        (lent_store lent.new) }
     ensures stays { Stays (unready line.old kept) line.old line.new }
+    ensures loan { KeepsLoan lent.old lent.new }
 {
     if kept == 0 {
         return Progress {
@@ -175,5 +161,5 @@ pub fn serve_end(
             written: 0,
         };
     }
-    serve_text(sizes, words, mem, line, out, b"\n", kept)
+    serve_text(lent, line, out, b"\n", kept)
 }

@@ -21,14 +21,14 @@ on_err (Err e) p = p
 
 -- the piece is taken to place i
 pub record PieceLeft (st₀ : Store) (line₀ out₀ piece : List ℕ) (kept₀ : ℕ) (st : Store) (line out : List ℕ) (kept i : ℕ) : Type 0 where
-  pub long : Lengths st₀ line₀ out₀ st line out
+  pub long : Lengths line₀ out₀ line out
   pub few : kept ≤ 8193
   pub reached : i ≤ length piece
   pub taken : TakenTo st₀ (take kept₀ line₀) piece st (take kept line) i
 
 pub piece-start : (st : Store) (line out piece : List ℕ) (kept : ℕ) → kept ≤ 8193 → PieceLeft st line out piece kept st line out kept 0
 piece-start st line out piece kept h = record {
-  long = lengths-start st line out;
+  long = lengths-start line out;
   few = h;
   reached = omega arith;
   taken = taken_start st (take kept line) piece;
@@ -49,7 +49,7 @@ module _ {st₀ : Store} {line₀ out₀ piece : List ℕ} {kept₀ : ℕ} {st :
     piece_moves room less =
         call_moves _ _ _ _ _ w (omega (arith, h, left.long.line_is)) left.few (omega (arith, room, left.long.out_is)) (omega (arith, rest))
 
-    pub piece-more : Lengths st line out st' line' out' → PieceLeft st₀ line₀ out₀ piece kept₀ st' line' out' r.kept (i + r.taken)
+    pub piece-more : Lengths line out line' out' → PieceLeft st₀ line₀ out₀ piece kept₀ st' line' out' r.kept (i + r.taken)
     piece-more l = record {
       long = lengths-on left.long l;
       few = omega (arith, w.kept_fits, l.line_is, left.long.line_is, h);

@@ -2,56 +2,86 @@
 // the replies are the same: `same N`, `PAIR PLACE` or `odd N`. At the first difference it reads no further.
 #![tactic(auto)]
 
-ghost use Rattle.std.specs.Prelude.{◌≤◌, length, IfOk};
+ghost use Rattle.std.specs.Prelude.{◌≡◌, ◌^◌, ◌<◌, ◌≤◌, ◌⊎◌, true, length, take, IfOk, IfSome, OnOk, MatchOption};
+ghost use Rattle.std.specs.Io.KnownBytes.{Appends, Consumes, Keeps, IsAtEnd};
+ghost use Rattle.rules.specs.Store.{empty_store};
+ghost use Rattle.rules.specs.Line.{frame_geometry};
+ghost use Rattle.tables.specs.Loans.{lent_store};
+ghost use Rattle.frame.specs.Judging.{is_parted};
+ghost use Rattle.replay.specs.Replayed.{told_of};
 
 use frame::{Frame, Judge, Request};
 use std::io;
-use std::io::{Read, Write};
+use std::io::{ErrorKind, Read, Write};
+use tables::Lent;
 
 // Bytes of input read at a time.
 const INPUT: usize = 65536;
 
-// A proved loop has to end, and nothing says that the input does: no run uses up the turns. A read that failed leaves no
-// verdict.
+// How many bytes of the recording a read brings; nothing at its end, and nothing is read where no more is wanted.
+fn read_on<R: Read>(from: &mut R, input: &mut [u8], judge: Judge) -> io::Result<Option<usize>>
+    requires { 0 < length input.old }
+    ensures within { IfOk result (λ o. IfSome o (λ n. n ≤ length input.new)) }
+    ensures read { IfOk result (λ o. MatchOption o
+        (Keeps (R.remaining from.old) (R.remaining from.new) × ((is_parted judge.step ≡ true) ⊎ IsAtEnd (R.remaining from.new)))
+        (λ n. Consumes (R.remaining from.old) (R.remaining from.new) (take n input.new))) }
+{
+    if frame::decided(judge) {
+        return Ok(None);
+    }
+    let n = from.read(input)?;
+    if n == 0 {
+        return Ok(None);
+    }
+    Ok(Some(n))
+}
+
+// The verdict on the whole recording is written. A read that failed leaves none. A proved loop has to end, and nothing says that
+// the input does: no run uses up the turns.
 fn judge_all<R: Read, W: Write>(
     from: &mut R,
     to: &mut W,
-    sizes: &mut [u64],
-    words: &mut [u32],
-    mem: &mut [u8],
+    lent: &mut Lent<'_>,
     line: &mut [u8],
     out: &mut [u8],
     input: &mut [u8],
-) -> io::Result<()> {
+) -> io::Result<()>
+    requires empty { lent_store lent.old ≡ empty_store frame_geometry }
+    requires line { 8193 ≤ length line.old }
+    requires out { 65536 ≤ length out.old }
+    requires input { 0 < length input.old }
+    ensures { OnOk result (IfSome (R.remaining from.old) (λ text.
+        length text < 2 ^ 64 → Appends (W.contents to.old) (W.contents to.new) (told_of text))) }
+{
     let mut judge = Judge::new();
     for _ in 0..u64::MAX {
-        let n = if frame::decided(judge) {
-            0
-        } else {
-            from.read(input)?
+        let Some(n) = read_on(from, input, judge)? else {
+            let verdict = frame::judged(judge, line, out);
+            return write!(to, "{verdict}");
         };
-        if n == 0 {
-            return write!(to, "{}", frame::judged(judge, line, out));
-        }
-        judge = frame::judge_text(sizes, words, mem, line, out, &input[..n], judge);
+        judge = frame::judge_text(lent, line, out, &input[..n], judge);
     }
-    Ok(())
+    Err(io::Error::from(ErrorKind::TimedOut))
 }
 
 // The store is empty: its tables are zero.
+#[tactic(auto, unfolding(rules::specs::Store::empty_store))]
 fn main(rt: HostRuntime) -> io::Result<()> {
     let mut sizes = [0u64; Frame::SIZES];
     let mut words = [0u32; Frame::WORDS];
-    let mut mem = [0u8; Frame::MEMORY];
+    let mut memory = [0u8; Frame::MEMORY];
+    let mut lent = Lent {
+        sizes: &mut sizes,
+        words: &mut words,
+        memory: &mut memory,
+    };
     let mut line = [0u8; Request::KEPT];
     let mut out = [0u8; frame::MIN_OUT];
     let mut input = [0u8; INPUT];
     judge_all(
         &mut rt.stdin(),
         &mut rt.stdout(),
-        &mut sizes,
-        &mut words,
-        &mut mem,
+        &mut lent,
         &mut line,
         &mut out,
         &mut input,

@@ -28,12 +28,17 @@ module _ (ws old : List ℕ) (i : ℕ) (inside : i + length old ≤ length ws) w
   part = take (i + length old - i) (drop i ws)
 
   -- where they are those of old, the need is what it was, and fits
-  pub planned-same : part ≡ old → (cs : List ℕ) → TableTrue ws cs → fits_pool (length cs) (splice ws i old) ≡ true → Planned (splice ws i old) ws true ws cs
-  planned-same is cs h fitted =
-      let all : i + length old - i ≡ length old = omega arith in
-      let unchanged : ws ≡ splice ws i old
-      = sym (splice-same ws i (length old) inside) ∙ ap (splice ws i) (ap (λ n. take n (drop i ws)) (sym all) ∙ is) in
-      planned-kept h (ap (λ x. leb (need x) (length cs)) unchanged ∙ fitted)
+  module _ (is : part ≡ old) where
+    unchanged : ws ≡ splice ws i old
+    unchanged =
+        let all : i + length old - i ≡ length old = omega arith in
+        sym (splice-same ws i (length old) inside) ∙ ap (splice ws i) (ap (λ n. take n (drop i ws)) (sym all) ∙ is)
+
+    pub need-same : need ws ≡ need (splice ws i old)
+    need-same = ap need unchanged
+
+    pub planned-same : (cs : List ℕ) → TableTrue ws cs → fits_pool (length cs) (splice ws i old) ≡ true → Planned (splice ws i old) ws true ws cs
+    planned-same cs h fitted = planned-kept h (ap (λ x. leb x (length cs)) need-same ∙ fitted)
 
 -- undone in a pool of m blocks
 pub planned-back : {back planned after cs : List ℕ} {m : ℕ} → fits_pool m planned ≡ false → length cs ≡ m → after ≡ back → TableTrue after cs

@@ -26,7 +26,7 @@ struct Look<'a> {
 }
 
 impl<'a> Look<'a> {
-    fn seen(self) -> Seen<'a> {
+    fn seen(self) -> Seen<'a, 'a> {
         Seen {
             sizes: self.sizes,
             words: self.words,

@@ -17,7 +17,7 @@ use Rattle.tables.specs.Tables.{Shaped, FileKnown}
 use Rattle.tables.specs.Tally.{Scannable, SlotsCounted}
 use Rattle.tables.specs.Survey.{file_passes, FileReady}
 use Rattle.rules.proofs.CountLaws.{count-parts, count-none-at}
-use Rattle.rules.proofs.GeometryLaws.{Good, good, block-pos, file-most, lengths}
+use Rattle.rules.proofs.GeometryLaws.{Good, good, block-pos, lengths}
 use Rattle.rules.proofs.SoundLaws.{all_to_at}
 use Rattle.rules.proofs.SoundStore.{ceil_le}
 use Rattle.xdr.proofs.BoolLaws.{and_false}

@@ -13,7 +13,7 @@ use lib.Dec.{leb, ltb, eqb}
 use Rattle.rules.specs.Lists.{bit, count, sum_to, count_to, all_to}
 use Rattle.rules.specs.Store.{is_hole, is_reserved, is_shared, block_bound, used, owes, owed, need, fits_pool, lowest_free}
 use Rattle.tables.specs.Tables.{Tallied, TableTrue}
-use Rattle.tables.specs.Tally.{some_reserved, takes_by, owes_by, InTable, OwedFrom, first_zero, HeldFrom}
+use Rattle.tables.specs.Tally.{some_reserved, takes_by, owes_by, OwedFrom, first_zero, HeldFrom}
 use Rattle.tables.specs.Groups.{group_at, group_all}
 use Rattle.rules.proofs.CountLaws.{sum_to_ext, count-parts, count_most}
 use Rattle.rules.proofs.NeedLaws.{lowest_free-free, scan-ends, used-to}

@@ -1,5 +1,5 @@
 // Whether a store is sound, and its used and owed blocks, by one table of holders.
-ghost use Rattle.std.specs.Prelude.{◌≡◌, ◌≤◌, is_some, IfSome, length, replicate};
+ghost use Rattle.std.specs.Prelude.{◌≡◌, ◌≤◌, is_some, IfSome, replicate};
 ghost use Rattle.rules.specs.Attributes.{slots_of};
 ghost use Rattle.rules.specs.Calls.{SurveyPromise};
 ghost use Rattle.tables.specs.Lent.{geometry_of, dimensions_of};
@@ -27,10 +27,12 @@ fn test_file(view: View<'_, '_>, counts: &mut [u32], file: usize) -> Option<Coun
     if ((geometry.slots * geometry.block_size) as u64) < size {
         return None;
     }
+    let size = size as usize;
+    let slots = slots_of(size, geometry.block_size);
     let at = file * geometry.slots;
-    let end = at + slots_of(size as usize, geometry.block_size);
+    let end = at + slots;
     let counted = scan_and_note(&view.words[at..end], counts)?;
-    if !file_sound(view, file) {
+    if !file_sound(view, file, size, slots) {
         return None;
     }
     Some(counted)

@@ -4,7 +4,7 @@ use Rattle.frame.proofs.JudgeLaws.{answers_first}
 use Rattle.frame.proofs.judge.answers.Goals as goal
 
 pub replies-requires : goal.replies-requires
-replies-requires c = (omega arith, omega (arith, length-take {A = ℕ}, line-fits _ _ c.requires c.serve_line-n.ensures))
+replies-requires c = (omega arith, omega (arith, length-take {A = ℕ}, line-fits _ _ c.requires c.serve_line-n.ensures.line))
 
-pub returns : goal.returns
-returns c = answers_first c.requires c.serve_line-n.ensures c.replies.ensures
+pub returns-clause-answers : goal.returns-clause-answers
+returns-clause-answers c = answers_first c.requires c.serve_line-n.ensures.line c.replies.ensures

@@ -6,4 +6,4 @@ pub returns-then-not-part-clause-read_promise : goal.returns-then-not-part-claus
 returns-then-not-part-clause-read_promise c = part_goes_on _ _ c.args.p c.args.line.now c.args.out.now _ c.keep-kept.ensures (omega arith) c.if-not-part.true (omega arith)
 
 pub returns-clause-read_promise : goal.returns-clause-read_promise
-returns-clause-read_promise c = part-ends _ _ c.args.p c.args.line.now c.args.out.now _ c.keep-kept.ensures (omega arith) c.if-not-part.false c.answer.ensures
+returns-clause-read_promise c = part-ends _ _ c.args.p c.args.line.now c.args.out.now _ c.keep-kept.ensures (omega arith) c.if-not-part.false c.answer.ensures.answered

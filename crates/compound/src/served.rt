@@ -14,6 +14,7 @@ pub struct Served {
 }
 
 impl Served {
+    // The minor version; the bytes of the verifier; the most bytes of a request, and the fewest of a reply buffer.
     pub const MINOR: u32 = 2;
 
     pub const VERIFIER: usize = 8;
@@ -41,12 +42,14 @@ impl From<Refusal> for Refused {
 }
 
 impl Refused {
+    // The numbers of refused calls; the others are of the tables.
     pub const LONG_REQUEST: u32 = 4;
 
     pub const SHORT_REPLY: u32 = 5;
 
     pub const BAD_HEADER: u32 = 6;
 
+    /// Its number.
     pub fn number(self) -> u32
         ensures { result ≡ refused_number self }
     {

@@ -10,3 +10,4 @@ pub mod LayoutLaws
 pub mod ArrayLaws
 pub mod Bounds
 pub mod NumberLaws
+pub mod SplitLaws

@@ -35,7 +35,7 @@ fn past_pieces(r: &mut Reader<'_>, n: u32) -> Option<()>
     ensures value { parsed itself result r.new.at ≡ end_of (times n piece_layout.read r.old.bytes.now r.old.at) }
     ensures bytes { r.new.bytes ≡ r.old.bytes }
 {
-    for _turn in 0..n {
+    for _ in 0..n {
         next_piece(r)?;
     }
     Some(())

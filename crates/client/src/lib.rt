@@ -19,5 +19,5 @@ pub use reply::{
     AttrsBody, Body, CopiedBody, DataBody, DataPiece, Fault, HolePiece, OpResult, Piece,
     PiecesBody, SoughtBody, WrittenBody,
 };
-pub use request::{Refusal, write_request};
+pub use request::{Refusal, Request, write_request};
 pub use result::step;

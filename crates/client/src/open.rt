@@ -1,7 +1,8 @@
 // A reply opened: all of it is read once before a result is handed out.
-ghost use Rattle.std.specs.Prelude.{◌≡◌};
+ghost use Rattle.std.specs.Prelude.{◌≡◌, []};
 ghost use Rattle.xdr.specs.Reading.{parsed};
 ghost use Rattle.rules.specs.Calls.{reply_head};
+ghost use Rattle.rules.specs.Client.{not_opened};
 ghost use Rattle.client.specs.Read.{of_head, results_good, OpenPromise};
 
 use crate::result::read_result;
@@ -18,6 +19,14 @@ pub struct Opened {
 /// The reply is not one to the request.
 #[derive(Clone, Copy, Debug, PartialEq, Eq)]
 pub struct NotOpened;
+
+impl NotOpened {
+    pub fn number(self) -> u32
+        ensures { result ≡ (not_opened []).number }
+    {
+        10
+    }
+}
 
 /// Status, tag and number of results.
 #[derive(Clone, Copy, Debug, PartialEq, Eq)]
@@ -68,10 +77,7 @@ fn results_good(r: &mut Reader<'_>, count: u32, status: u32, numbers: &[u32]) ->
 pub fn open_reply(tag: &[u8], numbers: &[u32], reply: &[u8]) -> Result<Opened, NotOpened>
     ensures { OpenPromise tag.now numbers.now reply.now result }
 {
-    let mut r = Reader {
-        bytes: reply,
-        at: 0,
-    };
+    let mut r = Reader::new(reply);
     let head = read_head(&mut r).ok_or(NotOpened)?;
     let first = r.at;
     if xdr::part(reply, head.tag) != tag {

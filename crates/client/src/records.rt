@@ -120,10 +120,10 @@ pub fn write_records(tag: &[u8], ns: &[u64], lent: &[u8], out: &mut [u8]) -> Res
     ensures { WritePromise tag.now (given_records lent.now ns.now) out.old result out.new }
 {
     let count = ns.len() / OpRecord::NUMBERS;
-    if ns.len() % OpRecord::NUMBERS != 0 || Refusal::MAX_OPS < count {
+    if ns.len() % OpRecord::NUMBERS != 0 || count > Operation::MAX_OPS as usize {
         return Err(Refusal::NotWritable);
     }
-    let mut ops = [Operation::GetFh; Refusal::MAX_OPS];
+    let mut ops = [Operation::GetFh; Operation::MAX_OPS as usize];
     for i in 0..count {
         ops[i] = operation_of(record_at(ns, OpRecord::NUMBERS * i)).ok_or(Refusal::NotWritable)?;
     }

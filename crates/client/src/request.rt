@@ -17,21 +17,20 @@ pub enum Refusal {
     NotWritable = 11,
 }
 
-impl Refusal {
-    /// Limits: operations; bytes of a tag, of a handle, of a bitmap's words, and of a request.
-    pub const MAX_OPS: usize = 12;
+/// A request's limits, and its minor version.
+pub struct Request;
 
-    pub const MAX_TAG: usize = 1024;
-
-    pub const MAX_HANDLE: usize = 128;
-
+impl Request {
+    /// Bytes of a bitmap's words.
     pub const MAX_BITMAP: usize = 16;
 
-    pub const MAX_REQUEST: usize = 65536;
+    /// Bytes of a request.
+    pub const MAX_SIZE: usize = 65536;
 
-    /// The minor version.
     pub const MINOR: u32 = 2;
+}
 
+impl Refusal {
     pub fn number(self) -> u32
         ensures { result ≡ refusal_number self }
     {
@@ -47,7 +46,7 @@ fn put_header(w: &mut Writer<'_>, tag: &[u8], count: u32)
     ensures { Wrote (header_layout.write (tag.now, (2, count))) w.old w.new }
 {
     w.opaque(tag);
-    w.u32(Refusal::MINOR);
+    w.u32(Request::MINOR);
     w.u32(count);
 }
 
@@ -62,12 +61,12 @@ pub fn write_request(
     ensures { WritePromise tag.now (given lent.now ops.now) out.old result out.new }
 {
     let n = tag.len();
-    if Refusal::MAX_OPS < ops.len() || Refusal::MAX_TAG < n {
+    if ops.len() > Operation::MAX_OPS as usize || n > Operation::MAX_TAG as usize {
         return Err(Refusal::NotWritable);
     }
     let start = 12 + (n + xdr::padding(n));
     let size = start + ops_size(lent, ops).ok_or(Refusal::NotWritable)?;
-    if Refusal::MAX_REQUEST < size {
+    if Request::MAX_SIZE < size {
         return Err(Refusal::NotWritable);
     }
     if out.len() < size {

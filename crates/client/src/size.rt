@@ -3,9 +3,9 @@ ghost use Rattle.std.specs.Prelude.{◌≡◌, ◌+◌, ◌*◌, ◌^◌, ◌≤
 ghost use Rattle.wire.specs.declared.operation.Operation.{Operation};
 ghost use Rattle.client.specs.Given.{lent_in, stateid_ok, op_size, ops_size};
 
-use crate::request::Refusal;
+use crate::request::Request;
 use wire::{CopyArgs, Operation, WriteArgs};
-use xdr::Span;
+use xdr::{Reader, Span};
 
 fn is_lent(lent: &[u8], d: Span) -> bool
     ensures { result ≡ lent_in lent.now d }
@@ -23,7 +23,7 @@ fn stateid_ok(lent: &[u8], d: Span) -> bool
 fn bitmap_size(lent: &[u8], d: Span) -> Option<usize>
     ensures { result ≡ op_size lent.now (Operation.GetAttr d) }
 {
-    if d.len > Refusal::MAX_BITMAP || d.len % 4 != 0 || !is_lent(lent, d) {
+    if d.len > Request::MAX_BITMAP || d.len % 4 != 0 || !is_lent(lent, d) {
         return None;
     }
     Some(8 + d.len)
@@ -33,7 +33,7 @@ fn bitmap_size(lent: &[u8], d: Span) -> Option<usize>
 fn handle_size(lent: &[u8], h: Span) -> Option<usize>
     ensures { result ≡ op_size lent.now (Operation.PutFh h) }
 {
-    if h.len > Refusal::MAX_HANDLE || !is_lent(lent, h) {
+    if h.len > Operation::MAX_HANDLE as usize || !is_lent(lent, h) {
         return None;
     }
     Some(8 + (h.len + xdr::padding(h.len)))
@@ -44,10 +44,12 @@ fn write_size(lent: &[u8], a: WriteArgs) -> Option<usize>
     ensures { result ≡ op_size lent.now (Operation.Write a) }
 {
     let len = a.data.len;
-    if a.stable > Operation::MAX_STABLE || !stateid_ok(lent, a.stateid) || !is_lent(lent, a.data) {
+    if a.stable > Operation::MAX_STABLE || len > Reader::MAX_LENGTH as usize {
         return None;
     }
-    u32::try_from(len).ok()?;
+    if !stateid_ok(lent, a.stateid) || !is_lent(lent, a.data) {
+        return None;
+    }
     Some(36 + (len + xdr::padding(len)))
 }
 

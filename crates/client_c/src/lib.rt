@@ -5,14 +5,11 @@ ghost use Rattle.std.specs.Prelude.{◌≡◌};
 ghost use Rattle.client.specs.Records.{given_records};
 ghost use Rattle.client_c.specs.Told.{RequestPromise, OpenedPromise, body_numbers, StepPromise, PiecePromise};
 
-use client::{Body, Piece, next_piece, open_reply, step, write_records};
+use client::{Body, NotOpened, Piece, next_piece, open_reply, step, write_records};
 use xdr::{Reader, Span};
 
 // Behind the last result.
 const DONE: u32 = 1;
-
-// The reply is not one to the request, or no result or piece stands at a place.
-const NOT_OPENED: u32 = 10;
 
 const NO_STATUS: u64 = 4294967295;
 
@@ -55,9 +52,9 @@ pub extern "C" fn client_open_reply(
             *told = [u64::from(opened.status), opened.first as u64];
             0
         }
-        Err(_) => {
+        Err(refusal) => {
             *told = [NO_STATUS, reply.len() as u64];
-            NOT_OPENED
+            refusal.number()
         }
     }
 }
@@ -126,7 +123,7 @@ pub extern "C" fn client_next_result(reply: &[u8], at: u64, told: &mut [u64; 10]
         }
         Err(_) => {
             *told = [0; 10];
-            NOT_OPENED
+            NotOpened.number()
         }
     }
 }
@@ -152,7 +149,7 @@ pub extern "C" fn client_next_piece(reply: &[u8], at: u64, told: &mut [u64; 5]) 
         }
         None => {
             *told = [0; 5];
-            NOT_OPENED
+            NotOpened.number()
         }
     }
 }

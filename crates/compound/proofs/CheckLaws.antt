@@ -1,7 +1,6 @@
 -- What the tests of an operation find.
-use Prim.Native.Nat.{ℕ, ◌+◌, ◌-◌, ◌*◌, ◌^◌, ◌<◌}
+use Prim.Native.Nat.{ℕ, ◌+◌, ◌-◌}
 use mathlib.Core.Path.{◌≡◌, refl, sym, ap}
-use mathlib.Core.Bool.{true}
 use mathlib.Core.List.{List}
 use borrow.Author.Tests.{eq-eqb}
 use lib.ListN.{length}
@@ -12,12 +11,11 @@ use Rattle.xdr.specs.Decode.{number, value}
 use Rattle.xdr.specs.Reading.{parsed, itself}
 use Rattle.xdr.proofs.NumberLaws.{no-fault, spelled}
 use native.Mathlib.Omega.{arith}
-use Rattle.rules.specs.Store.{Geometry, good_geometry, Store}
+use Rattle.rules.specs.Store.{Geometry, Store}
 use Rattle.rules.specs.Attributes.{file_attrs}
 use Rattle.rules.specs.Edit.{copying}
 use Rattle.rules.specs.Run.{edits}
 use Rattle.rules.specs.Operation.{attrs_reply, getattr_reply, copy_reply}
-use Rattle.rules.proofs.GeometryLaws.{good, file-most}
 use Rattle.wire.specs.declared.attrs.Asked.{Asked}
 use Rattle.wire.specs.Attrs.{asks, AsksAs}
 
@@ -29,13 +27,6 @@ pub copy_does : {f f' to n n' end e e' from : ℕ} → f ≡ f' → e ≡ e' →
     → edits (copying f to end e from) (λ v. copy_reply (end - to) v) ≡ edits (copying f' to (to + n') e' from) (λ v. copy_reply n' v)
 copy_does {f' = f'} {to} {n' = n'} {e' = e'} {from} a b c d =
     rw (d, a, b, c) (ap (λ (m : ℕ). edits (copying f' to (to + n') e' from) (λ v. copy_reply m v)) (over to n'))
-
-module _ (g : Geometry) (e : good_geometry g ≡ true) where
-  pub block_some : 0 < g.B
-  block_some = omega (arith, (good g e).block)
-
-  pub room_small : g.S * g.B < 2 ^ 64
-  room_small = omega (arith, file-most g (good g e))
 
 -- GETATTR: the attributes that the bitmap asks for
 pub attrs_same : (g : Geometry) (st : Store) (f : ℕ) (ws : List ℕ) (a : Asked) → AsksAs ws a → attrs_reply (file_attrs g st f) (asks a) ≡ getattr_reply g st f ws

@@ -10,10 +10,10 @@ use lib.Dec.{eqb}
 use borrow.Author.Tests.{ne_eqb}
 use Rattle.std.proofs.Common.{Result, Ok, Err, None}
 use Rattle.xdr.specs.Encode.{concat_map}
-use Rattle.xdr.specs.Writing.{Wrote, HasRoom}
+use Rattle.xdr.specs.Writing.{Wrote}
 use Rattle.xdr.specs.declared.writer.Writer.{Writer}
 use Rattle.xdr.proofs.ArrayLaws.{concat_map_append}
-use Rattle.xdr.proofs.WritingLaws.{wrote_none, wrote_then}
+use Rattle.xdr.proofs.WritingLaws.{wrote_then}
 use Rattle.rules.specs.Store.{Geometry, Store}
 use Rattle.rules.specs.Fault.{NOWHERE, fault_at}
 use Rattle.rules.specs.Operation.{BADXDR, Op, Item, op, bad, item_at, items}
@@ -120,22 +120,7 @@ pub record Held (g : Geometry) (v s : List ℕ) (st : Store) (ops at : ℕ) (w�
   pub left : reached (config g v) (fresh st) (items s ops at) ≡ zs ++ reached (config g v) x (items s (ops - turn) place)
 
 module _ (g : Geometry) (v s : List ℕ) (st : Store) (ops at : ℕ) (w₀ : Writer) where
-  pub held-start : Held g v s st ops at w₀ (fresh st) 0 at w₀
-  held-start = record {
-    zs = [];
-    ok = refl;
-    count = refl;
-    read = refl;
-    store = refl;
-    wrote = wrote_none w₀;
-    most = omega arith;
-    left = ap (λ (m : ℕ). reached (config g v) (fresh st) (items s m at)) (omega arith);
-  }
-
   module _ (h : Handles) (now : Store) {turn place : ℕ} {w : Writer} (d : Held g v s st ops at w₀ (state_of h now) turn place w) where
-    pub held-room : ops ≤ 12 → turn < ops → HasRoom 26148 w₀ → HasRoom 2179 w
-    held-room few l room = omega (arith, d.wrote.place, d.wrote.size, d.most)
-
     pub held-end : turn ≡ ops → RanAll 0 s (reached (config g v) (fresh st) (items s ops at)) st at (record { count = ops; stop = record { status = Status.Ok; place = None } }) place now w₀ w
     unfolding items reached
     held-end e =

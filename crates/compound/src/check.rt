@@ -14,7 +14,7 @@ use tables::Geometry;
 use wire::{CloneArgs, CopyArgs, Operation, ReadArgs, RegionArgs, Status, WriteArgs, asked_in};
 use xdr::Span;
 
-// An error unless the test holds.
+/// An error unless the test holds.
 pub fn ensure(holds: bool, status: Status) -> Result<(), Status>
     ensures ok { OnOk result (holds ≡ true) }
     ensures err { OnErr result (holds ≡ false) }
@@ -30,7 +30,7 @@ fn overlapping(a: u64, b: u64, n: u64) -> bool
     a.abs_diff(b) < n
 }
 
-// What an operation is checked against: the store, the request in which it stands, and the handles.
+/// What an operation is checked against: the store, the request in which it stands, and the handles.
 #[derive(Clone, Copy)]
 pub struct Context<'s, 'r> {
     pub store: &'s Store<'s, 's>,
@@ -249,7 +249,7 @@ impl<'r> Context<'_, 'r> {
             && (n % block == 0 || self.store.sizes[source] - from == n)
     }
 
-    // The first error of an operation that was read, NOSPC aside; or what it does.
+    /// The first error of an operation that was read, NOSPC aside; or what it does.
     #[tactic(auto, unfolding(rules::specs::Run::errors, rules::specs::Run::does))]
     pub fn check(&self, operation: Operation) -> Result<Does<'r>, Status>
         ensures { Checked self.now (meaning self.now.request.now operation) result }

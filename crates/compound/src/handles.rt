@@ -4,14 +4,14 @@ ghost use Rattle.xdr.specs.Decode.{value};
 
 use xdr::Reader;
 
-// The current and the saved file.
+/// The current and the saved file.
 #[derive(Clone, Copy, Debug, PartialEq, Eq)]
 pub struct Handles {
     pub current: Option<usize>,
     pub saved: Option<usize>,
 }
 
-// The file that a handle names; none where it has not four bytes.
+/// The file that a handle names; none where it has not four bytes.
 pub fn handle_file(handle: &[u8]) -> Option<usize>
     ensures fits { is_some result ≡ eqb (length handle.now) 4 }
     ensures file { IfSome result (λ f. f ≡ value handle.now) }

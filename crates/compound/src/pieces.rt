@@ -37,7 +37,7 @@ fn put_bytes(store: &Store<'_, '_>, file: usize, from: usize, n: usize, w: &mut 
     w.at = at + n;
 }
 
-// The file's n bytes from `from` on as opaque data: read into the place where they are answered.
+/// The file's n bytes from `from` on as opaque data: read into the place where they are answered.
 #[tactic(auto, using(xdr::proofs::EncodeLaws::lengths, crate::proofs::PieceLaws::length_bytes), unfolding(xdr::specs::Encode::opaque))]
 pub fn put_file_bytes(store: &Store<'_, '_>, file: usize, from: usize, n: usize, w: &mut Writer<'_>)
     requires file { file < store.now.geometry.files }
@@ -68,7 +68,7 @@ fn put_piece(store: &Store<'_, '_>, file: usize, from: usize, n: usize, w: &mut 
     }
 }
 
-// The pieces of the file from `from` up to `end`, one after the other; how many they are.
+/// The pieces of the file from `from` up to `end`, one after the other; how many they are.
 pub fn put_pieces(
     store: &Store<'_, '_>,
     file: usize,

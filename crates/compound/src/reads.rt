@@ -105,7 +105,7 @@ fn put_handle(file: usize, w: &mut Writer<'_>)
     w.opaque(&(file as u32).to_be_bytes());
 }
 
-// What a result shows of a file. SEEK's `count` is the kind that is asked for.
+/// What a result shows of a file. SEEK's `count` is the kind that is asked for.
 #[derive(Clone, Copy)]
 pub enum View {
     Attrs(Asked),
@@ -115,7 +115,7 @@ pub enum View {
     Seek(ReadArgs),
 }
 
-// The body that shows it.
+/// The body that shows it.
 pub fn show(store: &mut Store<'_, '_>, file: usize, view: View, w: &mut Writer<'_>)
     requires file { file < store.old.geometry.files }
     requires room { HasRoom 2171 w.old }

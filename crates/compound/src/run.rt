@@ -20,7 +20,7 @@ use store::{NoSpace, Store};
 use wire::{Operation, Status, item};
 use xdr::{Reader, Writer};
 
-// The status of an operation, and the place of its fault.
+/// The status of an operation, and the place of its fault.
 #[derive(Clone, Copy, Debug, PartialEq, Eq)]
 pub struct Stop {
     pub status: Status,
@@ -38,7 +38,7 @@ impl From<Status> for Stop {
     }
 }
 
-// How a run ended: how many operations were reached, and at what the last one stopped.
+/// How a run ended: how many operations were reached, and at what the last one stopped.
 #[derive(Clone, Copy, Debug, PartialEq, Eq)]
 pub struct Ended {
     pub count: u32,
@@ -134,7 +134,7 @@ fn step(
     }
 }
 
-// At most so many operations from the reader's place on.
+/// At most so many operations from the reader's place on.
 pub fn run(
     store: &mut Store<'_, '_>,
     verifier: u64,

@@ -5,7 +5,7 @@ ghost use Rattle.compound.specs.declared.served.Refused.{Refused};
 
 use tables::Refusal;
 
-// A compound that was served: the bytes read and written, and the place where the request went wrong.
+/// A compound that was served: the bytes read and written, and the place where the request went wrong.
 #[derive(Clone, Copy, Debug, PartialEq, Eq)]
 pub struct Served {
     pub read: usize,
@@ -14,6 +14,7 @@ pub struct Served {
 }
 
 impl Served {
+    // The minor version; the bytes of the verifier; the most bytes of a request, and the fewest of a reply buffer.
     pub const MINOR: u32 = 2;
 
     pub const VERIFIER: usize = 8;
@@ -23,7 +24,7 @@ impl Served {
     pub const MIN_REPLY: usize = 32768;
 }
 
-// Why a call does nothing: the tables, the length of the request or of the reply, or a header that goes wrong at a place.
+/// Why a call does nothing: the tables, the length of the request or of the reply, or a header that goes wrong at a place.
 #[derive(Clone, Copy, Debug, PartialEq, Eq)]
 pub enum Refused {
     Tables(Refusal),
@@ -41,12 +42,14 @@ impl From<Refusal> for Refused {
 }
 
 impl Refused {
+    // The numbers of refused calls; the others are of the tables.
     pub const LONG_REQUEST: u32 = 4;
 
     pub const SHORT_REPLY: u32 = 5;
 
     pub const BAD_HEADER: u32 = 6;
 
+    /// Its number.
     pub fn number(self) -> u32
         ensures { result ≡ refused_number self }
     {
@@ -58,7 +61,7 @@ impl Refused {
         }
     }
 
-    // Where the header goes wrong.
+    /// Where the header goes wrong.
     pub fn place(self) -> Option<usize>
         ensures { place_told result ≡ refused_place self }
     {

@@ -161,7 +161,7 @@ fn verifier_of(bytes: &[u8]) -> Option<u64>
     Reader::new(bytes).u64()
 }
 
-// Serves the compound of a request on the lent store.
+/// Serves the compound of a request on the lent store.
 pub fn serve(
     dimensions: Dimensions,
     lent: &mut Lent<'_>,

@@ -9,7 +9,7 @@ const ZEROS: &[u8] = &[0; 16];
 
 const ONES: &[u8] = &[255; 16];
 
-// Whether the stateid at d in request s passes for an edit.
+/// Whether the stateid at d in request s passes for an edit.
 #[tactic(auto, using(crate::proofs::SameLaws::same_is))]
 pub fn zero_stateid(s: &[u8], d: Span) -> bool
     ensures { result ≡ zero_stateid (part_of s.now d) }
@@ -17,7 +17,7 @@ pub fn zero_stateid(s: &[u8], d: Span) -> bool
     xdr::part(s, d) == ZEROS
 }
 
-// Whether it passes for reading, and as a source.
+/// Whether it passes for reading, and as a source.
 #[tactic(auto, using(crate::proofs::SameLaws::same_is))]
 pub fn read_stateid(s: &[u8], d: Span) -> bool
     ensures { result ≡ read_stateid (part_of s.now d) }

@@ -22,7 +22,7 @@ fn mismatches(a: &[u8], b: &[u8]) -> u8
     n
 }
 
-// A place up to which both are the same, n at most.
+/// A place up to which both are the same, n at most.
 pub fn same_blocks(a: &[u8], b: &[u8], n: usize) -> usize
     requires { (n ≤ length a.now) × (n ≤ length b.now) }
     ensures { Same a.now b.now n result }
@@ -55,7 +55,7 @@ fn find(text: &[u8], byte: u8) -> Option<usize>
     text.iter().position(|c| *c == byte)
 }
 
-// The place of the first newline, or the end of the text.
+/// The place of the first newline, or the end of the text.
 pub fn line_end(text: &[u8]) -> usize
     ensures { result ≡ index_of 10 text.now }
 {

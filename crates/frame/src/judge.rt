@@ -14,9 +14,9 @@ use crate::parts::{Part, Parts};
 use crate::text::keep;
 use tables::Lent;
 
-// Where a pair stands. `Asking(k)`: k characters are kept of the request's line, which has not ended. `Asked(k)`: it has,
-// and nothing of the reply's line came. `Comparing(n, at)`: the answer has n characters, and `at` of the reply's line came,
-// all alike. `Parted(place)`: the byte of the first difference.
+/// Where a pair stands. `Asking(k)`: k characters are kept of the request's line, which has not ended. `Asked(k)`: it has,
+/// and nothing of the reply's line came. `Comparing(n, at)`: the answer has n characters, and `at` of the reply's line came,
+/// all alike. `Parted(place)`: the byte of the first difference.
 #[derive(Clone, Copy, Debug, PartialEq, Eq)]
 pub enum Step {
     Asking(usize),

@@ -25,7 +25,7 @@ impl Progress {
     pub const ROOM: usize = 65537;
 }
 
-// Adds a part of a line to what is kept of it, as far as it is kept.
+/// Adds a part of a line to what is kept of it, as far as it is kept.
 pub fn keep(line: &mut [u8], kept: usize, text: &[u8]) -> usize
     requires { (kept ≤ 8193) × (8193 ≤ length line.old) }
     ensures { Kept (take kept line.old) text.now result line.new }

@@ -33,7 +33,7 @@ fn told_place(place: Option<usize>) -> u64
     }
 }
 
-// Zeroes every table: 0, or refusal 1 or 2.
+/// Zeroes every table: 0, or refusal 1 or 2.
 #[unsafe(no_mangle)]
 pub extern "C" fn store_make_empty(
     files: u64,
@@ -60,7 +60,7 @@ pub extern "C" fn store_make_empty(
     }
 }
 
-// Whether the store is sound, with its used and owed blocks: 0, or refusal 1, 2 or 3 and zero counts.
+/// Whether the store is sound, with its used and owed blocks: 0, or refusal 1, 2 or 3 and zero counts.
 #[unsafe(no_mangle)]
 pub extern "C" fn store_survey(
     files: u64,
@@ -93,8 +93,8 @@ pub extern "C" fn store_survey(
     }
 }
 
-// Shows a slot: 0, or refusal 1, 2, 3 or 8. `shown` gets the slice that has the slot's part, 0 for the memory and 1 for the page,
-// where the part starts there, and its length.
+/// Shows a slot: 0, or refusal 1, 2, 3 or 8. `shown` gets the slice that has the slot's part, 0 for the memory and 1 for the page,
+/// where the part starts there, and its length.
 #[unsafe(no_mangle)]
 pub extern "C" fn store_slot_view<'a>(
     files: u64,
@@ -129,8 +129,8 @@ pub extern "C" fn store_slot_view<'a>(
     number
 }
 
-// Serves a compound: 0, or refusal 1 to 6. `told` gets the bytes read and written, zero on a refusal, and the place where the
-// request went wrong.
+/// Serves a compound: 0, or refusal 1 to 6. `told` gets the bytes read and written, zero on a refusal, and the place where the
+/// request went wrong.
 #[unsafe(no_mangle)]
 pub extern "C" fn compound_serve(
     files: u64,

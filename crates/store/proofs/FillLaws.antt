@@ -267,9 +267,6 @@ module _ {g : Geometry} {st : Store} {e : CodeEdit.Edit} {size : ℕ} {old words
       let at : ℕ = e.file * g.S + first_slot g e.off in
       ap length h.old_are ∙ length-take-le (slot_count g e.off e.end) (drop at st.words) (rw (length-drop at st.words) (omega (arith, inside h.planned)))
 
-  pub slots_most : first_slot g e.off + length old ≤ 1024
-  slots_most = omega (arith, old-long, slots_in h.planned, (good-plan h.planned).slots_most)
-
   pub putting_start : Putting g st e size old words mem₀ mem₀ 0
   putting_start = record {
     filling = record { planned = h.planned; long = ap length h.mem_is; others = λ f i hf n l. rw h.mem_is (others_same h.planned f i n l) };

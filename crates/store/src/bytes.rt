@@ -1,5 +1,5 @@
 // An edit's bytes: the block of each touched slot gets the old slot's bytes, with the new ones over them.
-ghost use Rattle.std.specs.Prelude.{◌≡◌, pred, ◌+◌, ◌*◌, ◌/◌, ◌^◌, ◌<◌, ◌≤◌, ◌-◌, ◌⊎◌, length, get_or, take, drop};
+ghost use Rattle.std.specs.Prelude.{◌≡◌, min, max, pred, ◌+◌, ◌*◌, ◌/◌, ◌^◌, ◌<◌, ◌≤◌, ◌-◌, ◌⊎◌, length, get_or, take, drop};
 ghost use Rattle.xdr.specs.Bytes.{splice};
 ghost use Rattle.tables.specs.Lent.{geometry_of};
 ghost use Rattle.rules.specs.Edit.{within, slot_bytes, store_slot};
@@ -59,16 +59,24 @@ pub fn fresh_block(g: Geometry, mem: &mut [u8], slot: Slot) -> usize
     to
 }
 
+/// The places from `off` up to `end` that lie in the slot: from the first number up to the second.
+pub fn share(g: Geometry, slot: Slot, off: usize, end: usize) -> (usize, usize)
+    requires { slot.index * g.block_size + g.block_size < 2 ^ 64 }
+    ensures from { result.0 ≡ max off (slot.index * g.block_size) }
+    ensures end { result.1 ≡ min end (slot.index * g.block_size + g.block_size) }
+{
+    let start = slot.index * g.block_size;
+    (off.max(start), end.min(start + g.block_size))
+}
+
 /// The slot's share of a WRITE of d at `off`.
 pub fn write_slot(g: Geometry, mem: &mut [u8], slot: Slot, off: usize, d: &[u8])
     requires { Touched (geometry_of g) (length mem.old) slot.old slot.new slot.index off (off + length d.now) }
     ensures { mem.new ≡ store_slot (geometry_of g) (within off (off + length d.now)) (λ p. get_or d.now (p - off) 0)
         slot.old slot.new mem.old slot.index }
 {
-    let p = slot.index * g.block_size;
-    let a = off.max(p);
-    let b = (off + d.len()).min(p + g.block_size);
-    let to = fresh_block(g, mem, slot) + (a - p);
+    let (a, b) = share(g, slot, off, off + d.len());
+    let to = fresh_block(g, mem, slot) + (a - slot.index * g.block_size);
     mem[to..to + (b - a)].copy_from_slice(&d[a - off..b - off]);
 }
 
@@ -77,9 +85,7 @@ pub fn zero_slot(g: Geometry, mem: &mut [u8], slot: Slot, off: usize, end: usize
     requires { Touched (geometry_of g) (length mem.old) slot.old slot.new slot.index off end }
     ensures { mem.new ≡ store_slot (geometry_of g) (within off end) (λ i. 0) slot.old slot.new mem.old slot.index }
 {
-    let p = slot.index * g.block_size;
-    let a = off.max(p);
-    let b = end.min(p + g.block_size);
-    let to = fresh_block(g, mem, slot) + (a - p);
+    let (a, b) = share(g, slot, off, end);
+    let to = fresh_block(g, mem, slot) + (a - slot.index * g.block_size);
     mem[to..to + (b - a)].fill(0);
 }

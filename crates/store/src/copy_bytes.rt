@@ -7,7 +7,7 @@ ghost use Rattle.rules.specs.Edit.{within, store_slot};
 ghost use Rattle.store.specs.Readable.{InSlot};
 ghost use Rattle.store.specs.SlotBytes.{Copyable, SlotCopy};
 
-use crate::bytes::{copy_block, fresh_block};
+use crate::bytes::{copy_block, fresh_block, share};
 use crate::edit::{Edit, Slot, Source};
 use crate::read::slot_share;
 use crate::seek::word_at;
@@ -51,10 +51,8 @@ pub fn copy_slot(g: Geometry, words: &[u32], mem: &mut [u8], e: &Edit<'_>, from:
         (λ p. byte_at (geometry_of g) (tables sizes words.now mem.old) from.file (from.off + (p - e.now.off)))
         slot.old slot.new mem.old slot.index }
 {
-    let p = slot.index * g.block_size;
-    let a = e.off.max(p);
-    let b = e.end.min(p + g.block_size);
-    let to = fresh_block(g, mem, slot) + (a - p);
+    let (a, b) = share(g, slot, e.off, e.end);
+    let to = fresh_block(g, mem, slot) + (a - slot.index * g.block_size);
     let file = from.file;
     let off = from.off + (a - e.off);
     copy_bytes(g, words, mem, Source { file, off }, to, b - a);

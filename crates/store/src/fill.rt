@@ -1,4 +1,5 @@
 // The bytes of an edit, in the slots of its region, once their words are planned.
+// The tables travel one by one: over one struct the proof is no shorter and the loop no faster.
 ghost use Rattle.std.specs.Prelude.{◌≡◌, ℕ};
 ghost use Rattle.rules.specs.Store.{Store};
 ghost use Rattle.rules.specs.Edit.{edit_bytes, fill_slot};

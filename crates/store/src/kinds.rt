@@ -1,4 +1,5 @@
 // What becomes of a slot of an edit's region.
+// The tables travel one by one: over one struct the proof is no shorter and the loop no faster.
 ghost use Rattle.std.specs.Prelude.{◌≡◌, cond, ◌*◌, ◌<◌, ◌≤◌, length};
 ghost use Rattle.rules.specs.Store.{is_hole};
 ghost use Rattle.rules.specs.Edit.{covers, given, goes_first, owns, stays};

@@ -1,4 +1,5 @@
 // The plan of any edit, in place: what becomes of each slot of its region, those that become holes first, then the others.
+// The tables travel one by one: over one struct the proof is no shorter and the loop no faster.
 ghost use Rattle.std.specs.Prelude.{◌≡◌, true, length, is_ok};
 ghost use Rattle.rules.specs.Store.{fits_pool};
 ghost use Rattle.tables.specs.Lent.{geometry_of};

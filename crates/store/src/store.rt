@@ -104,7 +104,8 @@ impl Store<'_, '_> {
         tables::file_space(geometry, words, holders, file)
     }
 
-    /// Applies an edit. Refuses, and changes nothing, exactly if the store would then need more blocks than there are.
+    /// Applies an edit. Refuses, and changes nothing, exactly if the store would then need more blocks than there are. It asks for a lawful
+    /// edit, which keeps the store sound; the call over slices asks less.
     pub fn apply(&mut self, edit: &Edit<'_>) -> Result<(), NoSpace>
         requires lawful { Lawful (geometry_of self.old.geometry) (whole self.old) (edit_from edit.now) }
         requires act { ActKnown (geometry_of self.old.geometry) (whole self.old) edit.now.file edit.now.off edit.now.end edit.now.act }

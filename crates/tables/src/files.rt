@@ -1,5 +1,5 @@
 // Whether each file is sound: its size, the slots past it, and the bytes of its last slot past it.
-ghost use Rattle.std.specs.Prelude.{◌≡◌, ◌&&◌, ◌||◌, ◌+◌, ◌-◌, ◌*◌, ◌/◌, ◌<◌, ◌≤◌, length, get_or, eqb, ltb};
+ghost use Rattle.std.specs.Prelude.{◌≡◌, ◌||◌, ◌+◌, ◌-◌, ◌*◌, ◌/◌, ◌<◌, ◌≤◌, length, get_or, eqb, ltb};
 ghost use Rattle.rules.specs.Lists.{all_to, ceil_div};
 ghost use Rattle.rules.specs.Store.{size_of, word_of, slot_byte, sound_file};
 ghost use Rattle.tables.specs.Lent.{geometry_of};

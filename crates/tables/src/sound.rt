@@ -1,5 +1,5 @@
 // Whether a store is sound, and its used and owed blocks, by one table of holders.
-ghost use Rattle.std.specs.Prelude.{◌≡◌, ◌≤◌, is_some, IfSome, length, replicate};
+ghost use Rattle.std.specs.Prelude.{◌≡◌, ◌≤◌, is_some, IfSome, replicate};
 ghost use Rattle.rules.specs.Attributes.{slots_of};
 ghost use Rattle.rules.specs.Calls.{SurveyPromise};
 ghost use Rattle.tables.specs.Lent.{geometry_of, dimensions_of};

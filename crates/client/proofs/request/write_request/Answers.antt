@@ -11,5 +11,5 @@ returns c =
     let ops = c.args.ops.now in
     let all : every (writable s) ops ≡ true = search rules in
     let size : length (ops_bytes s ops) ≡ c.in_ok-size.field-0 = search rules in
-    request_written s c.args.tag.now ops c.args.out.now all c.if-ops-gt-MAX_OPS.false c.if-n-gt-MAX_TAG.false (omega arith) (omega arith) refl refl
+    request_written s c.args.tag.now ops c.args.out.now all c.if-ops.false c.if-n.false (omega arith) (omega arith) refl refl
     (wrote_then c.put_header.ensures c.put_operations.ensures) (search rules)

@@ -23,10 +23,6 @@ abbrev pub bytes_front : List ℕ → Option (List ℕ) → Option (List ℕ)
 bytes_front bs none = none
 bytes_front bs (some cs) = some (bs ++ cs)
 
-front-none : (o : Option (List ℕ)) → bytes_front [] o ≡ o
-front-none none = refl
-front-none (some bs) = refl
-
 front-more : (out : List ℕ) (i b : ℕ) (o : Option (List ℕ)) → i < length out
     → bytes_front (take (i + 1) (set out i b)) o ≡ bytes_front (take i out) (byte_front (some b) o)
 front-more out i b none h = refl

@@ -90,10 +90,6 @@ pub keep-keep : (l a b : List ℕ) → keep (keep l a) b ≡ keep l (a ++ b)
 unfolding keep
 keep-keep l a b = cut_append 8193 (l ++ a) b ∙ ap (take 8193) (append_assoc l a b)
 
-pub length-keep : (l a : List ℕ) → length (keep l a) ≤ 8193
-unfolding keep
-length-keep l a = omega (arith, length-take 8193 (l ++ a))
-
 pub take_min : (n : ℕ) (l : List ℕ) → take (min n (length l)) l ≡ take n l
 take_min n l = go (ltb n (length l)) refl
   where

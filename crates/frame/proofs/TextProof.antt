@@ -1,7 +1,7 @@
 -- A text served in calls of any length, with any room, has the rules' answers to its lines, in order.
 use Prim.Native.Nat.{ℕ, zero, suc, ◌+◌, ◌-◌, ◌≤◌, ◌<◌}
 use mathlib.Core.Path.{◌≡◌, refl, sym, ap, subst, ◌∙◌}
-use mathlib.Core.Bool.{Bool, true, false, cond, true≢false}
+use mathlib.Core.Bool.{Bool, true, false, cond}
 use mathlib.Core.List.{List, [], ◌∷◌, ◌++◌, map, append_assoc, append-nil}
 use native.Mathlib.Nat.{sub-zero}
 use native.Mathlib.Omega.{arith}
@@ -270,9 +270,6 @@ taken-all piece well h a =
     let b = rw (drop_of_length-le piece h) at a.0 in
     let c = rw (drop_of_length-le piece h) at a.1 in
     record { store_is = λ e. b; line_is = λ e. c }
-
-pub taken-stopped : {st₀ st : Store} {l₀ l piece : List ℕ} {well : Bool} → well ≡ false → Taken well st₀ l₀ piece st l
-taken-stopped f = record { store_is = λ e. absurd (true≢false (sym e ∙ f)); line_is = λ e. absurd (true≢false (sym e ∙ f)) }
 
 -- the end of the text answers the line that was begun
 pub text-ended : (line : List ℕ) (kept : ℕ) (out : List ℕ) (st : Store) → 8193 ≤ length line → kept ≤ 8193 → 65537 ≤ length out

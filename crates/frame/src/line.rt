@@ -38,7 +38,7 @@ pub fn frame_geometry() -> Dimensions
 }
 
 // The answer's line of a request. `reply` is the zeroed reply buffer; the verifier is zero.
-fn serve_request(lent: &mut Lent<'_>, request: &[u8], reply: &mut [u8], out: &mut [u8]) -> usize
+fn serve_into(lent: &mut Lent<'_>, request: &[u8], reply: &mut [u8], out: &mut [u8]) -> usize
     requires { (reply.old ≡ replicate 32768 0) × (65536 ≤ length out.old) }
     ensures line { LinePromise
         (answer_request (lent_store lent.old) request.now)
@@ -53,17 +53,22 @@ fn serve_request(lent: &mut Lent<'_>, request: &[u8], reply: &mut [u8], out: &mu
     }
 }
 
+// The same with a reply buffer of its own, which is cleared for a line that is served, and for no other.
+fn serve_request(lent: &mut Lent<'_>, request: &[u8], out: &mut [u8]) -> usize
+    requires { 65536 ≤ length out.old }
+    ensures line { LinePromise
+        (answer_request (lent_store lent.old) request.now)
+        out.old result out.new
+        (lent_store lent.new) }
+    ensures loan { KeepsLoan lent.old lent.new }
+{
+    let mut reply = [0u8; Served::MIN_REPLY];
+    serve_into(lent, request, &mut reply, out)
+}
+
 // The answer of a line, whose bytes go into `request`.
-fn serve_digits(
-    lent: &mut Lent<'_>,
-    line: &[u8],
-    request: &mut [u8],
-    reply: &mut [u8],
-    out: &mut [u8],
-) -> usize
-    requires request { 4096 ≤ length request.old }
-    requires reply { reply.old ≡ replicate 32768 0 }
-    requires room { 65536 ≤ length out.old }
+fn serve_digits(lent: &mut Lent<'_>, line: &[u8], request: &mut [u8], out: &mut [u8]) -> usize
+    requires { (4096 ≤ length request.old) × (65536 ≤ length out.old) }
     ensures line { LinePromise
         (answer_line (lent_store lent.old) line.now)
         out.old result out.new
@@ -73,7 +78,7 @@ fn serve_digits(
     let Some(n) = request_bytes(line, request) else {
         return put_refusal(Request::REFUSED, out);
     };
-    serve_request(lent, &request[..n], reply, out)
+    serve_request(lent, &request[..n], out)
 }
 
 /// Serves the line on the lent store and writes its answer's line at the start of `out`. Answers that line's length, or 0
@@ -90,6 +95,5 @@ pub fn serve_line(lent: &mut Lent<'_>, line: &[u8], out: &mut [u8]) -> usize
         return 0;
     }
     let mut request = [0u8; Request::MAX_BYTES];
-    let mut reply = [0u8; Served::MIN_REPLY];
-    serve_digits(lent, line, &mut request, &mut reply, out)
+    serve_digits(lent, line, &mut request, out)
 }

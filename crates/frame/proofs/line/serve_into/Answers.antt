@@ -1,7 +1,7 @@
 use Rattle.std.proofs.Common.{arith, refl, sym}
 use lib.Seq.{length-take-le}
 use Rattle.frame.proofs.LineLaws.{frame_called, number_small, written_fits, digits-fit, request-refused, request-served, refused_some}
-use Rattle.frame.proofs.line.serve_request.Goals as goal
+use Rattle.frame.proofs.line.serve_into.Goals as goal
 
 pub slice_bounds-put_hex-end : goal.slice_bounds-put_hex-end
 slice_bounds-put_hex-end c = written_fits _ _ (frame_called _ _ c.frame_geometry.ensures c.requires.0 c.in-Ok.ensures.contract)

@@ -1,4 +1,5 @@
 pub mod CheckLaws
+pub mod ErrorLaws
 pub mod SameLaws
 pub mod PieceLaws
 pub mod WholeLaws

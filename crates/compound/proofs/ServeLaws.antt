@@ -144,34 +144,50 @@ module _ (g : Geometry) (v s buf : List ℕ) (st : Store) where
     refused-verifier q = by (Refused.Tables Refusal.Length) refl (rw (good, fits, q) refl) (omega arith)
 
     module _ (long : length v ≡ 8) where
-      pub refused-unsound : sound g st ≡ false → Contract asked st (outcome (Err (Refused.Tables Refusal.Unsound)) buf st)
+      is-unsound : sound g st ≡ false → refusal asked st ≡ 3
       unfolding refusal
-      refused-unsound q = by (Refused.Tables Refusal.Unsound) refl (rw (good, fits, eq-eqb (length v) 8 long, q) refl) (omega arith)
+      is-unsound q = rw (good, fits, eq-eqb (length v) 8 long, q) refl
 
-      module _ (is-sound : sound g st ≡ true) where
-        pub refused-long : 65536 < length s → Contract asked st (outcome (Err Refused.LongRequest) buf st)
+      pub refused-unsound : sound g st ≡ false → Contract asked st (outcome (Err (Refused.Tables Refusal.Unsound)) buf st)
+      refused-unsound q = by (Refused.Tables Refusal.Unsound) refl (is-unsound q) (omega arith)
+
+      -- a refusal that comes behind it
+      behind : (k : ℕ) → 0 < k → (sound g st ≡ true → refusal asked st ≡ k) → (e : Refused) → refused_number e ≡ cond (sound g st) k 3 → refused_place e ≡ NOWHERE
+          → Contract asked st (outcome (Err e) buf st)
+      behind k n then e q p = go (sound g st) refl
+        where
+          go : (b : Bool) → sound g st ≡ b → Contract asked st (outcome (Err e) buf st)
+          go true h = let i : refused_number e ≡ k = rw h at q in by e p (then h ∙ sym i) (omega (arith, i, n))
+          go false h = let i : refused_number e ≡ 3 = rw h at q in by e p (is-unsound h ∙ sym i) (omega (arith, i))
+
+      long-is : 65536 < length s → sound g st ≡ true → refusal asked st ≡ 4
+      unfolding refusal
+      long-is l is-sound = rw (good, fits, eq-eqb (length v) 8 long, is-sound, lt-ltb 65536 (length s) l) refl
+
+      short-is : length s ≤ 65536 → length buf < 32768 → sound g st ≡ true → refusal asked st ≡ 5
+      unfolding refusal
+      short-is short l is-sound = rw (good, fits, eq-eqb (length v) 8 long, is-sound, le-ltb 65536 (length s) short, lt-ltb (length buf) 32768 l) refl
+
+      pub refused-long : 65536 < length s → (e : Refused) → refused_number e ≡ cond (sound g st) 4 3 → refused_place e ≡ NOWHERE → Contract asked st (outcome (Err e) buf st)
+      refused-long l = behind 4 (omega arith) (long-is l)
+
+      pub refused-short : length s ≤ 65536 → length buf < 32768 → (e : Refused) → refused_number e ≡ cond (sound g st) 5 3 → refused_place e ≡ NOWHERE
+          → Contract asked st (outcome (Err e) buf st)
+      refused-short short l = behind 5 (omega arith) (short-is short l)
+
+      module _ (is-sound : sound g st ≡ true) (short : length s ≤ 65536) (room : 32768 ≤ length buf) where
+        accepted : refusal asked st ≡ 0
         unfolding refusal
-        refused-long l = by Refused.LongRequest refl (rw (good, fits, eq-eqb (length v) 8 long, is-sound, lt-ltb 65536 (length s) l) refl) (omega arith)
+        accepted = rw (good, fits, eq-eqb (length v) 8 long, is-sound, le-ltb 65536 (length s) short, le-ltb (length buf) 32768 room) refl
 
-        module _ (short : length s ≤ 65536) where
-          pub refused-short : length buf < 32768 → Contract asked st (outcome (Err Refused.ShortReply) buf st)
-          unfolding refusal
-          refused-short l =
-              by Refused.ShortReply refl (rw (good, fits, eq-eqb (length v) 8 long, is-sound, le-ltb 65536 (length s) short, lt-ltb (length buf) 32768 l) refl) (omega arith)
+        pub refused-header : {p : ℕ} → header s 0 ≡ fault p → Contract asked st (outcome (Err (Refused.BadHeader p)) buf st)
+        unfolding answer answer_no_place place_of
+        refused-header {p} e = refuse-gives (Refused.BadHeader p) (rw (accepted, e, answer_no_place, place_of) refl)
 
-          module _ (room : 32768 ≤ length buf) where
-            accepted : refusal asked st ≡ 0
-            unfolding refusal
-            accepted = rw (good, fits, eq-eqb (length v) 8 long, is-sound, le-ltb 65536 (length s) short, le-ltb (length buf) 32768 room) refl
-
-            pub refused-header : {p : ℕ} → header s 0 ≡ fault p → Contract asked st (outcome (Err (Refused.BadHeader p)) buf st)
-            unfolding answer answer_no_place place_of
-            refused-header {p} e = refuse-gives (Refused.BadHeader p) (rw (accepted, e, answer_no_place, place_of) refl)
-
-            pub serves : {h : Header} {at : ℕ} (r : Served) {reply : List ℕ} {after : Store} → header s 0 ≡ got h at
-                → ServedAs (config g v) st s h at buf r reply after → Contract asked st (outcome (Ok r) reply after)
-            unfolding answer answer_no_place place_of
-            serves r e d = rw (accepted, e, answer_no_place, place_of) d
+        pub serves : {h : Header} {at : ℕ} (r : Served) {reply : List ℕ} {after : Store} → header s 0 ≡ got h at
+            → ServedAs (config g v) st s h at buf r reply after → Contract asked st (outcome (Ok r) reply after)
+        unfolding answer answer_no_place place_of
+        serves r e d = rw (accepted, e, answer_no_place, place_of) d
 
 -- the same in a reply buffer that is the same
 pub with-reply : {want : Outcome Store} (r : Result Served Refused) {l m : List ℕ} (st : Store) → l ≡ m → Gives want (outcome r m st) → Gives want (outcome r l st)

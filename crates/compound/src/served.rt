@@ -42,22 +42,15 @@ impl From<Refusal> for Refused {
 }
 
 impl Refused {
-    // The numbers of refused calls; the others are of the tables.
-    pub const LONG_REQUEST: u32 = 4;
-
-    pub const SHORT_REPLY: u32 = 5;
-
-    pub const BAD_HEADER: u32 = 6;
-
-    /// Its number.
+    /// Its number; 1 to 3 are of the tables.
     pub fn number(self) -> u32
         ensures { result ≡ refused_number self }
     {
         match self {
             Refused::Tables(refusal) => refusal.number(),
-            Refused::LongRequest => Self::LONG_REQUEST,
-            Refused::ShortReply => Self::SHORT_REPLY,
-            Refused::BadHeader(_) => Self::BAD_HEADER,
+            Refused::LongRequest => 4,
+            Refused::ShortReply => 5,
+            Refused::BadHeader(_) => 6,
         }
     }
 

@@ -1,5 +1,5 @@
 -- The verdict where a recording ends, and its line. Contracts cite these.
-use Rattle.std.specs.Prelude.{ℕ, ◌≡◌, cond, List, [], ◌∷◌, ◌++◌, length, drop}
+use Rattle.std.specs.Prelude.{ℕ, ◌≡◌, cond, List, [], ◌∷◌, ◌++◌, length, drop, ltb}
 use Rattle.std.proofs.Math.Option.{Option, none, some}
 use Rattle.frame.specs.declared.judge.Judge.{Judge}
 use Rattle.frame.specs.declared.judge.Verdict as Code
@@ -20,6 +20,10 @@ verdict_call j line out = cond (fits j line out) (some (verdict_by j.pairs (stag
 abbrev pub printed : Option Verdict → List ℕ
 printed none = []
 printed (some v) = verdict_line v ++ 10 ∷ []
+
+-- an `out` of fewer than 42 bytes takes no line (house)
+unfoldable pub verdict_text : Code.Verdict → List ℕ → List ℕ
+verdict_text v out = cond (ltb (length out) 42) [] (printed (of_verdict v))
 
 -- the text stands at the start of `out`, bytes past it unchanged; its length is answered
 pub record Printed (text out : List ℕ) (r : ℕ) (after : List ℕ) : Type 0 where

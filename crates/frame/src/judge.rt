@@ -35,6 +35,11 @@ pub enum Verdict {
     Refused,
 }
 
+impl Verdict {
+    /// The characters of a verdict's line at most: two numbers of 20 digits, a space and a newline.
+    pub const ROOM: usize = 42;
+}
+
 /// How many pairs are the same, and where the next one stands.
 #[derive(Clone, Copy, Debug, PartialEq, Eq)]
 pub struct Judge {

@@ -121,7 +121,7 @@ pub record Held (g : Geometry) (v s : List ℕ) (st : Store) (ops at : ℕ) (w�
 
 module _ (g : Geometry) (v s : List ℕ) (st : Store) (ops at : ℕ) (w₀ : Writer) where
   module _ (h : Handles) (now : Store) {turn place : ℕ} {w : Writer} (d : Held g v s st ops at w₀ (state_of h now) turn place w) where
-    pub held-end : turn ≡ ops → RanAll 0 s (reached (config g v) (fresh st) (items s ops at)) st at (record { count = ops; stop = record { status = Status.Ok; place = None } }) place now w₀ w
+    pub held-end : turn ≡ ops → RanAll 0 s (reached (config g v) (fresh st) (items s ops at)) st at (record { count = ops; status = Status.Ok; place = None }) place now w₀ w
     unfolding items reached
     held-end e =
         let none_left : ops - turn ≡ 0 = omega arith in
@@ -152,7 +152,7 @@ module _ (g : Geometry) (v s : List ℕ) (st : Store) (ops at : ℕ) (w₀ : Wri
         after-is = ap (λ (x : State). x.store) t.state
 
       pub held-stop : {e : Stop} {next : ℕ} {after : Store} {w' : Writer} → Turned z (fault_at s place) place h (Err e) next after w w'
-          → RanAll 0 s (reached (config g v) (fresh st) (items s ops at)) st at (record { count = turn + 1; stop = e }) next after w₀ w'
+          → RanAll 0 s (reached (config g v) (fresh st) (items s ops at)) st at (record { count = turn + 1; status = e.status; place = e.place }) next after w₀ w'
       held-stop t =
           let fails : z.status ≢ 0 = λ q. omega (arith, t.failed, t.status, q) in
           let all : reached (config g v) (fresh st) (items s ops at) ≡ d.zs ++ (z ∷ []) =

@@ -52,7 +52,7 @@ module _ (c : Config) (st : Store) (s : List ℕ) (h : Header) (at : ℕ) where
 
   -- one that is refused as a whole
   pub ran-none : (e : Status) → number_of e ≡ header_status h → 0 < number_of e → (w : Writer)
-      → RanAll (header_status h) s (compound c st s h at) st at (record { count = 0; stop = record { status = e; place = None } }) at st w w
+      → RanAll (header_status h) s (compound c st s h at) st at (record { count = 0; status = e; place = None }) at st w w
   ran-none e q n w = rw (events-none (number_of e) (sym q) n) (record {
     status = q;
     count = refl;
@@ -76,14 +76,14 @@ module _ (c : Config) (st : Store) (s : List ℕ) (h : Header) (at : ℕ) where
   module _ {r : Ended} {next : ℕ} {after : Store} {w₀ w₁ w₂ w₃ w₄ w₅ w₆ : Writer} (start : w₀.at ≡ 0) (room : 32768 ≤ length w₀.out.now)
       (short : length (opaque h.tag) ≤ 1028) (first : Wrote (u32 0) w₀ w₁) (tag : Wrote (opaque h.tag) w₁ w₂) (second : Wrote (u32 0) w₂ w₃)
       (ran : RanAll (header_status h) s (compound c st s h at) st at r next after w₃ w₄) (count : WroteOver w₂.at (u32 r.count) w₄ w₅)
-      (status : WroteOver 0 (u32 (number_of r.stop.status)) w₅ w₆) where
+      (status : WroteOver 0 (u32 (number_of r.status)) w₅ w₆) where
     whole-reply : Wrote bytes w₀ w₆
     unfolding reply_bytes
     whole-reply =
         let results = concat_map result_bytes (compound c st s h at) in
         let from = wrote_over (u32 0) results (omega (arith, start, room, short, first.place, first.size, tag.place, tag.size, length-u32 0)) (length-u32 r.count ∙ sym (length-u32 0))
         (wrote_then second ran.wrote) count in
-        let all = wrote_over (u32 0) (opaque h.tag ++ (u32 r.count ++ results)) (omega (arith, start)) (length-u32 (number_of r.stop.status) ∙ sym (length-u32 0))
+        let all = wrote_over (u32 0) (opaque h.tag ++ (u32 r.count ++ results)) (omega (arith, start)) (length-u32 (number_of r.status) ∙ sym (length-u32 0))
         (wrote_then first (wrote_then tag from)) (rw start status) in
         rw (← ran.status, ← ran.count, append_assoc, append_assoc) all
 
@@ -91,7 +91,7 @@ module _ (c : Config) (st : Store) (s : List ℕ) (h : Header) (at : ℕ) where
     unfolding splice
     reply-is = wrote_spliced whole-reply ∙ ap (λ (k : ℕ). splice w₀.out.now k bytes) start ∙ ap (λ (k : ℕ). bytes ++ drop k w₀.out.now) (zero-add (length bytes))
 
-    pub served-right : ServedAs c st s h at w₀.out.now (record { read = next; written = w₆.at; place = r.stop.place }) w₆.out.now after
+    pub served-right : ServedAs c st s h at w₀.out.now (record { read = next; written = w₆.at; place = r.place }) w₆.out.now after
     unfolding served last_fault
     served-right = record {
       number = refl;

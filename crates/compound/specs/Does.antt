@@ -38,6 +38,10 @@ AllowedIn c (Code.Does.Edits e) = ActKnown (geometry_of c.store.now.geometry) (s
 abbrev pub first_reads : Context → Span → ℕ → ℕ
 first_reads c d k = cond (no_file (file_in c.handles.current)) NOFILEHANDLE (cond (not (read_stateid (part_of c.request.now d))) BAD_STATEID k)
 
+-- of WRITE, ALLOCATE and DEALLOCATE: the same
+abbrev pub first_edits : Context → Span → ℕ → ℕ
+first_edits c d k = cond (no_file (file_in c.handles.current)) NOFILEHANDLE (cond (not (zero_stateid (part_of c.request.now d))) BAD_STATEID k)
+
 -- of COPY and CLONE: the first error of what comes first, or else k
 abbrev pub first_pair : Context → CloneArgs → ℕ → ℕ
 first_pair c a k =

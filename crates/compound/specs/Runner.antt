@@ -93,10 +93,10 @@ pub record Turned (z : Event) (fault at : ℕ) (h : Handles) (r : Result Handles
 
 -- how the run of request s from place `at` on ends, by the operations reached; k is the status where there is none
 pub record RanAll (k : ℕ) (s : List ℕ) (zs : List Event) (st : Store) (at : ℕ) (r : Ended) (next : ℕ) (after : Store) (old new : Writer) : Type 0 where
-  pub status : number_of r.stop.status ≡ last_status k zs
+  pub status : number_of r.status ≡ last_status k zs
   pub count : r.count ≡ length zs
   pub read : next ≡ last_place at zs
-  pub place : place_told r.stop.place ≡ cond (eqb (last_status k zs) BADXDR) (fault_at s (last_place at zs)) NOWHERE
+  pub place : place_told r.place ≡ cond (eqb (last_status k zs) BADXDR) (fault_at s (last_place at zs)) NOWHERE
   pub store : after ≡ last_store st zs
   pub wrote : Wrote (concat_map result_bytes zs) old new
 

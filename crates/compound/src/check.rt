@@ -43,12 +43,12 @@ pub struct Context<'s, 'r> {
 impl<'r> Context<'_, 'r> {
     ghost use Rattle.std.specs.Prelude.{[], ◌∷◌, ◌*◌, ◌≤◌, IfOk, IfErr};
     ghost use Rattle.rules.specs.Lists.{first};
-    ghost use Rattle.rules.specs.Run.{read_stateid, too_far, too_big, past_source, source_count, uneven};
+    ghost use Rattle.rules.specs.Run.{read_stateid, zero_stateid, too_far, too_big, past_source, source_count, uneven};
     ghost use Rattle.rules.specs.Store.{size_of};
     ghost use Rattle.wire.specs.Status.{number_of};
     ghost use Rattle.wire.specs.Decoded.{meaning};
     ghost use Rattle.compound.specs.Runner.{first_of};
-    ghost use Rattle.compound.specs.Does.{store_in, first_reads, first_pair, Paired, Checked};
+    ghost use Rattle.compound.specs.Does.{store_in, first_reads, first_edits, first_pair, Paired, Checked};
 
     fn current(&self) -> Result<usize, Status>
         ensures { result ≡ ok_or self.now.handles.current Status.NoFileHandle }
@@ -91,6 +91,17 @@ impl<'r> Context<'_, 'r> {
         Ok(file)
     }
 
+    // The current file, where the stateid passes for an edit of it.
+    fn editable(&self, stateid: Span) -> Result<usize, Status>
+        ensures err { IfErr result (λ e. (k : ℕ) → number_of e ≡ first_edits self.now stateid k) }
+        ensures failed { IfErr result (λ e. 0 < number_of e) }
+        ensures ok { IfOk result (λ f. (self.now.handles.current ≡ Some f) × (zero_stateid (part_of self.now.request.now stateid) ≡ true)) }
+    {
+        let target = self.current()?;
+        ensure(zero_stateid(self.request, stateid), Status::BadStateid)?;
+        Ok(target)
+    }
+
     #[tactic(auto, unfolding(rules::specs::Run::errors, rules::specs::Run::does))]
     fn put_fh(&self, handle: Span) -> Result<Does<'r>, Status>
         ensures { Checked self.now (meaning self.now.request.now (Operation.PutFh handle)) result }
@@ -117,8 +128,7 @@ impl<'r> Context<'_, 'r> {
     fn write(&self, args: WriteArgs) -> Result<Does<'r>, Status>
         ensures { Checked self.now (meaning self.now.request.now (Operation.Write args)) result }
     {
-        let file = self.current()?;
-        ensure(zero_stateid(self.request, args.stateid), Status::BadStateid)?;
+        let file = self.editable(args.stateid)?;
         let data = xdr::part(self.request, args.data);
         let end = self.region(args.offset, data.len() as u64)?;
         let edit = Edit {
@@ -134,8 +144,7 @@ impl<'r> Context<'_, 'r> {
     fn allocate(&self, args: RegionArgs) -> Result<Does<'r>, Status>
         ensures { Checked self.now (meaning self.now.request.now (Operation.Allocate args)) result }
     {
-        let file = self.current()?;
-        ensure(zero_stateid(self.request, args.stateid), Status::BadStateid)?;
+        let file = self.editable(args.stateid)?;
         let end = args.offset.checked_add(args.length).ok_or(Status::Inval)?;
         ensure(args.length != 0, Status::Inval)?;
         ensure(end <= self.room(), Status::FBig)?;
@@ -153,8 +162,7 @@ impl<'r> Context<'_, 'r> {
     fn deallocate(&self, args: RegionArgs) -> Result<Does<'r>, Status>
         ensures { Checked self.now (meaning self.now.request.now (Operation.Deallocate args)) result }
     {
-        let file = self.current()?;
-        ensure(zero_stateid(self.request, args.stateid), Status::BadStateid)?;
+        let file = self.editable(args.stateid)?;
         let end = args.offset.checked_add(args.length).ok_or(Status::Inval)?;
         ensure(args.length != 0, Status::Inval)?;
         let edit = Edit {
@@ -172,11 +180,10 @@ impl<'r> Context<'_, 'r> {
         ensures failed { IfErr result (λ e. 0 < number_of e) }
         ensures ok { IfOk result (λ p. Paired self.now args p.0 p.1) }
     {
-        let source = self.saved()?;
-        let file = self.current()?;
+        let pair = (self.saved()?, self.current()?);
         ensure(read_stateid(self.request, args.source), Status::BadStateid)?;
         ensure(zero_stateid(self.request, args.target), Status::BadStateid)?;
-        Ok((source, file))
+        Ok(pair)
     }
 
     // How many bytes of a source are meant: a count of 0 means to its end.

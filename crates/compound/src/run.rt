@@ -38,11 +38,12 @@ impl From<Status> for Stop {
     }
 }
 
-/// How a run ended: how many operations were reached, and at what the last one stopped.
+/// How a run ended: how many operations were reached, the status of the last one, and the place of its fault.
 #[derive(Clone, Copy, Debug, PartialEq, Eq)]
 pub struct Ended {
     pub count: u32,
-    pub stop: Stop,
+    pub status: Status,
+    pub place: Option<usize>,
 }
 
 // The head of a result: the operation's number and the status.
@@ -160,13 +161,15 @@ pub fn run(
             Err(stop) => {
                 return Ended {
                     count: turn + 1,
-                    stop,
+                    status: stop.status,
+                    place: stop.place,
                 };
             }
         }
     }
     Ended {
         count: operations,
-        stop: Stop::from(Status::Ok),
+        status: Status::Ok,
+        place: None,
     }
 }

@@ -16,7 +16,7 @@ ghost use Rattle.wire.specs.Decoded.{header_of};
 ghost use Rattle.compound.specs.Runner.{config_of, first_of, RanAll, ServedAs, call, outcome};
 
 use crate::check::ensure;
-use crate::run::{Ended, Stop, run};
+use crate::run::{Ended, run};
 use crate::served::{Refused, Served};
 use store::Store;
 use tables::{Dimensions, Geometry, Lent, Refusal, View};
@@ -51,7 +51,8 @@ fn answer(
     match check_header(header) {
         Err(status) => Ended {
             count: 0,
-            stop: Stop::from(status),
+            status,
+            place: None,
         },
         Ok(()) => run(store, verifier, reader, header.ops, w),
     }
@@ -79,11 +80,11 @@ fn serve_operations(
     w.u32(0);
     let ended = answer(store, verifier, reader, header, w);
     w.set_u32(count, ended.count);
-    w.set_u32(0, ended.stop.status.number());
+    w.set_u32(0, ended.status.number());
     Served {
         read: reader.at,
         written: w.at,
-        place: ended.stop.place,
+        place: ended.place,
     }
 }
 

@@ -30,5 +30,4 @@ returns-in-Err-clause-ran c =
 
 pub returns-clause-ran : goal.returns-clause-ran
 returns-clause-ran c =
-    let stop : c.from.result ≡ record { status = Status.Ok; place = None } = search rules in
-    rw stop (held-end _ _ _ _ _ _ _ c.loop-turn.handles (whole c.loop-turn.store) c.loop-turn.invariant.3 (omega (arith, c.loop-turn-test.false)))
+    held-end _ _ _ _ _ _ _ c.loop-turn.handles (whole c.loop-turn.store) c.loop-turn.invariant.3 (omega (arith, c.loop-turn-test.false))

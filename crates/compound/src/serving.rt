@@ -180,8 +180,18 @@ pub fn serve(
     let words = &mut *lent.words;
     let memory = &mut *lent.memory;
     match geometry.blocks {
-        0..=256 => serve_with::<256>(geometry, sizes, words, memory, number, request, reply),
-        257..=4096 => serve_with::<4096>(geometry, sizes, words, memory, number, request, reply),
-        _ => serve_with::<65536>(geometry, sizes, words, memory, number, request, reply),
+        ..=Geometry::SMALL_POOL => {
+            serve_with::<{ Geometry::SMALL_POOL }>(
+                geometry, sizes, words, memory, number, request, reply,
+            )
+        }
+        ..=Geometry::MIDDLE_POOL => {
+            serve_with::<{ Geometry::MIDDLE_POOL }>(
+                geometry, sizes, words, memory, number, request, reply,
+            )
+        }
+        _ => serve_with::<{ Geometry::MAX_BLOCKS }>(
+            geometry, sizes, words, memory, number, request, reply,
+        ),
     }
 }

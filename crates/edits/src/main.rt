@@ -12,7 +12,7 @@ use compound::Served;
 use frame::Request;
 use std::io;
 use std::io::{ErrorKind, Read, Write};
-use tables::{Dimensions, Lent};
+use tables::{Dimensions, Lent, Refusal};
 use xdr::{Reader, Span};
 
 // Tables for F 4, S 16, N 32, B 4,096, room for an answer, and bytes of input read at a time.
@@ -25,14 +25,6 @@ const MEMORY: usize = 131072;
 const ANSWER: usize = 65536;
 
 const INPUT: usize = 65536;
-
-// Dimensions outside the limits.
-const OUTSIDE: Dimensions = Dimensions {
-    files: 0,
-    slots: 0,
-    blocks: 0,
-    block_size: 0,
-};
 
 // A line of the input, as far as it has come. One too long for a compound loses its tail.
 #[derive(Drop)]
@@ -78,30 +70,39 @@ fn said(digits: &[u8], numbers: &mut [u8]) -> Option<Dimensions>
     })
 }
 
-// The dimensions that a line asks for, if it begins with "="; those outside the limits where it says none.
-fn asked(line: &[u8]) -> Option<Dimensions> {
+// What a line asks for: the store that "=" and digits say, nothing clear where they say none, or else to be served.
+enum Wish {
+    Service,
+    Store(Dimensions),
+    Unclear,
+}
+
+fn asked(line: &[u8]) -> Wish {
     let [b'=', digits @ ..] = line else {
-        return None;
+        return Wish::Service;
     };
     let mut numbers = [0u8; Request::MAX_BYTES];
-    Some(said(digits, &mut numbers).unwrap_or(OUTSIDE))
+    match said(digits, &mut numbers) {
+        Some(dimensions) => Wish::Store(dimensions),
+        None => Wish::Unclear,
+    }
 }
 
-fn put_reply(reply: &[u8], text: &mut [u8]) -> usize {
+fn put_reply(reply: &[u8], text: &mut [u8]) -> Option<usize> {
     if text.len() / 2 < reply.len() {
-        return 0;
+        return None;
     }
-    frame::put_hex(reply, text)
+    Some(frame::put_hex(reply, text))
 }
 
-fn put_refusal(number: u32, text: &mut [u8]) -> usize {
+fn put_refusal(number: u32, text: &mut [u8]) -> Option<usize> {
     if 9 < number || text.len() < 2 {
-        return 0;
+        return None;
     }
-    frame::put_refusal(number, text)
+    Some(frame::put_refusal(number, text))
 }
 
-// Serves the line's compound, and answers how many bytes of `text` are the answer.
+// Serves the line's compound, and answers how many bytes of `text` are the answer, if it holds the answer.
 fn serve_digits(
     dimensions: Dimensions,
     lent: &mut Lent<'_>,
@@ -109,7 +110,7 @@ fn serve_digits(
     request: &mut [u8],
     reply: &mut [u8],
     text: &mut [u8],
-) -> usize
+) -> Option<usize>
     requires { 4096 ≤ length request.old }
 {
     let Some(n) = frame::request_bytes(line, request) else {
@@ -132,8 +133,9 @@ fn serve<W: Write>(
     let mut request = [0u8; Request::MAX_BYTES];
     let mut reply = [0u8; Served::MIN_REPLY];
     let mut text = [0u8; ANSWER];
-    let n = serve_digits(dimensions, lent, line, &mut request, &mut reply, &mut text);
-    to.write_all(front(&text, n))?;
+    if let Some(n) = serve_digits(dimensions, lent, line, &mut request, &mut reply, &mut text) {
+        to.write_all(front(&text, n))?;
+    }
     let (used, owed) = match tables::survey(dimensions, lent.seen()) {
         Ok(survey) => (survey.used, survey.owed),
         Err(_) => (0, 0),
@@ -151,8 +153,14 @@ fn act<W: Write>(
     memory: &mut [u8],
     line: &[u8],
 ) -> io::Result<Dimensions> {
-    let asked = asked(line);
-    let wanted = asked.unwrap_or(dimensions);
+    let (wanted, serves) = match asked(line) {
+        Wish::Service => (dimensions, true),
+        Wish::Store(wanted) => (wanted, false),
+        Wish::Unclear => {
+            writeln!(to, "-{}", Refusal::Geometry.number())?;
+            return Ok(dimensions);
+        }
+    };
     let slots = wanted.files.saturating_mul(wanted.slots);
     let bytes = wanted.blocks.saturating_mul(wanted.block_size);
     if sizes.len() < wanted.files || words.len() < slots || memory.len() < bytes {
@@ -164,7 +172,7 @@ fn act<W: Write>(
         words: &mut words[..slots],
         memory: &mut memory[..bytes],
     };
-    if asked.is_none() {
+    if serves {
         serve(to, dimensions, &mut part, line)?;
         return Ok(dimensions);
     }
@@ -190,7 +198,7 @@ fn answer<W: Write>(
     act(to, dimensions, sizes, words, memory, line)
 }
 
-// Answers the lines that end in what was read, and then the line begun, if no more comes.
+// Answers the lines that end in what was read, and keeps the line begun.
 fn take_bytes<W: Write>(
     to: &mut W,
     dimensions: Dimensions,

@@ -11,7 +11,7 @@ ghost use Rattle.server.specs.Exports.{SurveyedPromise, ShownPromise, ServePromi
 use tables::{Dimensions, Lent, Seen};
 
 // The place that is told where there is none.
-const NOWHERE: u64 = 4294967295;
+const NOWHERE: u64 = u32::MAX as u64;
 
 fn dimensions(files: u64, slots: u64, blocks: u64, block_size: u64) -> Dimensions
     ensures { dimensions_of result ≡ record { F = files; S = slots; N = blocks; B = block_size } }

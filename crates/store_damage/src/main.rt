@@ -19,24 +19,12 @@ const SMALL: Dimensions = Dimensions {
 #[derive(Clone, Copy)]
 struct Look<'a> {
     dimensions: Dimensions,
-    sizes: &'a [u64],
-    words: &'a [u32],
-    memory: &'a [u8],
+    seen: Seen<'a, 'a>,
     page: &'a [u8],
 }
 
-impl<'a> Look<'a> {
-    fn seen(self) -> Seen<'a, 'a> {
-        Seen {
-            sizes: self.sizes,
-            words: self.words,
-            memory: self.memory,
-        }
-    }
-}
-
 fn tell<W: Write>(to: &mut W, name: &str, look: Look<'_>) -> io::Result<()> {
-    let (number, used, owed) = match tables::survey(look.dimensions, look.seen()) {
+    let (number, used, owed) = match tables::survey(look.dimensions, look.seen) {
         Ok(survey) => (0, survey.used, survey.owed),
         Err(refusal) => (refusal.number(), 0, 0),
     };
@@ -48,7 +36,7 @@ fn tell<W: Write>(to: &mut W, name: &str, look: Look<'_>) -> io::Result<()> {
 fn say_slot<W: Write>(to: &mut W, look: Look<'_>, file: usize, slot: usize) -> io::Result<()> {
     let (number, hole) = match tables::slot_place(
         look.dimensions,
-        look.seen(),
+        look.seen,
         look.page,
         file,
         slot,
@@ -57,7 +45,7 @@ fn say_slot<W: Write>(to: &mut W, look: Look<'_>, file: usize, slot: usize) -> i
         Err(refusal) => (refusal.number(), true),
     };
     let kind = if hole { "hole" } else { "data" };
-    let part = tables::slot_view(look.dimensions, look.seen(), look.page, file, slot);
+    let part = tables::slot_view(look.dimensions, look.seen, look.page, file, slot);
     write!(to, " {number} {kind} {}", part.len())?;
     if let [first, second, third, fourth, .., last] = part {
         write!(to, " {first} {second} {third} {fourth} {last}")?;
@@ -69,16 +57,18 @@ fn say_slot<W: Write>(to: &mut W, look: Look<'_>, file: usize, slot: usize) -> i
 fn limit<W: Write>(to: &mut W, name: &str, dimensions: Dimensions) -> io::Result<()> {
     let look = Look {
         dimensions,
-        sizes: &[],
-        words: &[],
-        memory: &[],
+        seen: Seen {
+            sizes: &[],
+            words: &[],
+            memory: &[],
+        },
         page: &[0],
     };
     tell(to, name, look)
 }
 
 fn limits<W: Write>(to: &mut W) -> io::Result<()> {
-    let most = 18446744073709551615;
+    let most = usize::MAX;
     let cases = [
         ("files-0", 0, 4, 4, 512),
         ("files-1", 1, 4, 4, 512),
@@ -136,18 +126,32 @@ fn block_sizes<W: Write>(to: &mut W) -> io::Result<()> {
 fn lengths<W: Write>(to: &mut W) -> io::Result<()> {
     let whole = Look {
         dimensions: SMALL,
-        sizes: &[0; 2],
-        words: &[0; 8],
-        memory: &[0; 2048],
+        seen: Seen {
+            sizes: &[0; 2],
+            words: &[0; 8],
+            memory: &[0; 2048],
+        },
         page: &[0; 512],
     };
     tell(to, "whole", whole)?;
-    let sizes = &whole.sizes[..1];
-    tell(to, "sizes-short", Look { sizes, ..whole })?;
-    let words = &whole.words[..7];
-    tell(to, "words-short", Look { words, ..whole })?;
-    let memory = &whole.memory[..2047];
-    tell(to, "memory-short", Look { memory, ..whole })?;
+    let sizes = &whole.seen.sizes[..1];
+    let seen = Seen {
+        sizes,
+        ..whole.seen
+    };
+    tell(to, "sizes-short", Look { seen, ..whole })?;
+    let words = &whole.seen.words[..7];
+    let seen = Seen {
+        words,
+        ..whole.seen
+    };
+    tell(to, "words-short", Look { seen, ..whole })?;
+    let memory = &whole.seen.memory[..2047];
+    let seen = Seen {
+        memory,
+        ..whole.seen
+    };
+    tell(to, "memory-short", Look { seen, ..whole })?;
     let page = &whole.page[..511];
     tell(to, "page-short", Look { page, ..whole })
 }
@@ -162,7 +166,7 @@ fn words_and_sizes<W: Write>(to: &mut W) -> io::Result<()> {
         ("block-5-reserved", 512, [11, 0, 0], 0),
         ("size-full", 2048, [0, 0, 0], 0),
         ("size-over", 2049, [0, 0, 0], 0),
-        ("size-largest", 18446744073709551615, [0, 0, 0], 0),
+        ("size-largest", u64::MAX, [0, 0, 0], 0),
         ("slot-past-size", 512, [2, 4, 0], 0),
         ("mark-past-size", 512, [2, 1, 0], 0),
         ("slot-at-size", 513, [2, 4, 0], 0),
@@ -185,9 +189,11 @@ fn words_and_sizes<W: Write>(to: &mut W) -> io::Result<()> {
         memory[1536] = 44;
         let look = Look {
             dimensions: SMALL,
-            sizes: &[size, 0],
-            words: &[first, second, third, 0, 0, 0, 0, 0],
-            memory: &memory,
+            seen: Seen {
+                sizes: &[size, 0],
+                words: &[first, second, third, 0, 0, 0, 0, 0],
+                memory: &memory,
+            },
             page: &[0; 512],
         };
         tell(to, name, look)?;
@@ -199,14 +205,17 @@ fn words_and_sizes<W: Write>(to: &mut W) -> io::Result<()> {
 fn pool<W: Write>(to: &mut W) -> io::Result<()> {
     let full = Look {
         dimensions: Dimensions { blocks: 1, ..SMALL },
-        sizes: &[1024; 2],
-        words: &[2, 0, 0, 0, 0, 0, 0, 0],
-        memory: &[0; 512],
+        seen: Seen {
+            sizes: &[1024; 2],
+            words: &[2, 0, 0, 0, 0, 0, 0, 0],
+            memory: &[0; 512],
+        },
         page: &[0; 512],
     };
     tell(to, "pool-full", full)?;
     let words = &[2, 1, 0, 0, 0, 0, 0, 0];
-    tell(to, "pool-over", Look { words, ..full })
+    let seen = Seen { words, ..full.seen };
+    tell(to, "pool-over", Look { seen, ..full })
 }
 
 fn pages<W: Write>(to: &mut W) -> io::Result<()> {
@@ -214,22 +223,18 @@ fn pages<W: Write>(to: &mut W) -> io::Result<()> {
     page[511] = 1;
     let look = Look {
         dimensions: SMALL,
-        sizes: &[0; 2],
-        words: &[0; 8],
-        memory: &[0; 2048],
+        seen: Seen {
+            sizes: &[0; 2],
+            words: &[0; 8],
+            memory: &[0; 2048],
+        },
         page: &page,
     };
     tell(to, "page-not-zero", look)?;
-    let (sizes, page) = (&[0, 2049], &page[..511]);
-    tell(
-        to,
-        "page-and-size",
-        Look {
-            sizes,
-            page,
-            ..look
-        },
-    )
+    let sizes = &[0, 2049];
+    let seen = Seen { sizes, ..look.seen };
+    let page = &page[..511];
+    tell(to, "page-and-size", Look { seen, page, ..look })
 }
 
 // File 0 has block 1, a hole, block 2 with a reserve, and a slot past its size; file 1 shares block 1.
@@ -239,8 +244,13 @@ fn slots<W: Write>(to: &mut W) -> io::Result<()> {
     memory[1023] = 29;
     let mut dirty = [0; 512];
     dirty[0] = 1;
+    let seen = Seen {
+        sizes: &[1536, 512],
+        words: &[4, 0, 7, 0, 4, 0, 0, 0],
+        memory: &memory,
+    };
     let page: &[u8] = &[0; 512];
-    let most = 18446744073709551615;
+    let most = usize::MAX;
     let cases = [
         ("block", page, 0, 0),
         ("hole", page, 0, 1),
@@ -259,9 +269,7 @@ fn slots<W: Write>(to: &mut W) -> io::Result<()> {
     for (name, page, file, slot) in cases {
         let look = Look {
             dimensions: SMALL,
-            sizes: &[1536, 512],
-            words: &[4, 0, 7, 0, 4, 0, 0, 0],
-            memory: &memory,
+            seen,
             page,
         };
         write!(to, "slot {name}")?;
@@ -282,12 +290,9 @@ fn make<W: Write>(to: &mut W, name: &str, lent: &mut Lent<'_>) -> io::Result<()>
 }
 
 fn tell_lent<W: Write>(to: &mut W, name: &str, lent: &Lent<'_>) -> io::Result<()> {
-    let seen = lent.seen();
     let look = Look {
         dimensions: SMALL,
-        sizes: seen.sizes,
-        words: seen.words,
-        memory: seen.memory,
+        seen: lent.seen(),
         page: &[0; 512],
     };
     tell(to, name, look)

@@ -1,6 +1,5 @@
-use Rattle.std.proofs.Common.{rules, ◌≡◌, None, arith, ◌∙◌}
+use Rattle.std.proofs.Common.{rules, arith, ◌∙◌}
 use Rattle.xdr.proofs.EncodeLaws.{length-u64}
-use Rattle.wire.specs.declared.status.Status.{Status}
 use Rattle.store.specs.Whole.{whole, KeepsWhole}
 use Rattle.compound.proofs.WholeLaws.{limits}
 use Rattle.compound.proofs.RunLaws.{ready}

@@ -1,4 +1,3 @@
-use Rattle.std.proofs.Common.{rules, ◌≡◌, None}
 use Rattle.store.specs.Whole.{whole}
 use Rattle.wire.specs.Decoded.{header_of}
 use Rattle.compound.specs.Runner.{config_of}

@@ -1,6 +1,6 @@
 -- Laws on what is written of the answers to what was read.
-use Rattle.std.proofs.Common.{◌≡◌, ℕ, ◌+◌, ◌-◌, ◌≤◌, List, [], ◌++◌, length, take, drop, refl, sym, ap, ◌∙◌, subst, append_assoc, append-nil, drop_of_length-le}
-use Rattle.std.specs.Prelude.{Option}
+use Rattle.std.proofs.Common.{arith, length-append, ◌≡◌, ℕ, ◌+◌, ◌-◌, ◌≤◌, ◌<◌, List, [], ◌++◌, length, take, drop, refl, sym, ap, ◌∙◌, subst, append_assoc, append-nil, drop_of_length-le}
+use Rattle.std.specs.Prelude.{Option, Some, None}
 use Rattle.std.proofs.lemmas.List.{take_rest, drop-drop}
 use Rattle.std.specs.Io.KnownBytes.{Appends, Consumes}
 use Rattle.std.proofs.KnownBytes.{Appends-trans, Appends-nil, Consumes-trans, Consumes-kept, Consumes-nil, Consumes-whole}
@@ -51,19 +51,26 @@ last_answer st line kept out w h g room = ap (λ x. x.answers) w.reading_is ∙ 
 
 -- ---- the whole input
 
--- what is read is answered as far as lines have ended, and the line that has not is kept
-pub record Served (from from' to to' : Option (List ℕ)) (st₀ st : Store) (l : List ℕ) : Type 0 where
+-- of an input of fewer bytes than there are turns
+abbrev pub IfFew : Option (List ℕ) → (List ℕ → Type 0) → Type 0
+IfFew a P = IfSome a (λ text. length text < 18446744073709551615 → P text)
+
+-- what is read, in n turns, is answered as far as lines have ended, and the line that has not is kept
+pub record Served (from from' to to' : Option (List ℕ)) (st₀ st : Store) (l : List ℕ) (n : ℕ) : Type 0 where
   pub text : List ℕ
+  pub long : n ≤ length text
   pub consumed : Consumes from from' text
   pub answered : Answered to to' st₀ [] text st l []
 
-pub served_none : (from to : Option (List ℕ)) (st : Store) → Served from from to to st st []
-served_none from to st = record { text = []; consumed = Consumes-nil from; answered = answered_start to st [] [] }
+pub served_none : (from to : Option (List ℕ)) (st : Store) → Served from from to to st st [] 0
+served_none from to st = record { text = []; long = omega arith; consumed = Consumes-nil from; answered = answered_start to st [] [] }
 
-module _ {from from' to to' : Option (List ℕ)} {st₀ st : Store} {l : List ℕ} (s : Served from from' to to' st₀ st l) where
-  pub served_more : {from'' to'' : Option (List ℕ)} {st' : Store} {l' : List ℕ} → Went from' from'' to' to'' st l st' l' → Served from from'' to to'' st₀ st' l'
-  served_more w = record {
+module _ {from from' to to' : Option (List ℕ)} {st₀ st : Store} {l : List ℕ} {n : ℕ} (s : Served from from' to to' st₀ st l n) where
+  pub served_more : {from'' to'' : Option (List ℕ)} {st' : Store} {l' : List ℕ} → Went from' from'' to' to'' st l st' l' → (m : ℕ) → m ≤ n + 1
+      → Served from from'' to to'' st₀ st' l' m
+  served_more w m h = record {
     text = s.text ++ w.piece;
+    long = omega (arith, h, s.long, w.some, length-append s.text w.piece);
     consumed = Consumes-trans _ _ _ _ _ s.consumed w.consumed;
     answered = record {
       written = s.answered.written ++ w.answered.written;
@@ -76,9 +83,14 @@ module _ {from from' to to' : Option (List ℕ)} {st₀ st : Store} {l : List �
     };
   }
 
-  pub served_all : {from'' to'' : Option (List ℕ)} → Finished from' from'' to' to'' st l → IfSome from (λ text. Appends to to'' (answers_to st₀ text))
+  pub served_all : {from'' to'' : Option (List ℕ)} → Finished from' from'' to' to'' st l → IfFew from (λ text. Appends to to'' (answers_to st₀ text))
   served_all {from''} {to''} f =
       let all : s.answered.written ++ answers st l [] ≡ answers_to st₀ s.text =
       s.answered.same [] ∙ ap (answers st₀ []) (append-nil s.text) ∙ answers_are st₀ s.text in
-      Consumes-whole from from'' s.text (λ text. Appends to to'' (answers_to st₀ text)) (Consumes-kept _ _ _ _ s.consumed f.kept) f.end
-      (subst (Appends to to'') all (Appends-trans _ _ _ _ _ s.answered.appended f.appended))
+      few from
+      (Consumes-whole from from'' s.text (λ text. Appends to to'' (answers_to st₀ text)) (Consumes-kept _ _ _ _ s.consumed f.kept) f.end
+      (subst (Appends to to'') all (Appends-trans _ _ _ _ _ s.answered.appended f.appended)))
+    where
+      few : (a : Option (List ℕ)) → IfSome a (λ text. Appends to to'' (answers_to st₀ text)) → IfFew a (λ text. Appends to to'' (answers_to st₀ text))
+      few None h = tt
+      few (Some x) h = λ less. h

@@ -1,5 +1,5 @@
 -- What the program has written of the answers to what it read. Contracts cite these.
-use Rattle.std.specs.Prelude.{ℕ, ◌≡◌, List, [], ◌++◌, Option}
+use Rattle.std.specs.Prelude.{ℕ, ◌≡◌, ◌<◌, List, [], ◌++◌, length, Option}
 use Rattle.std.specs.Io.KnownBytes.{Appends, Consumes, Keeps, IsAtEnd}
 use Rattle.rules.specs.Store.{Store}
 use Rattle.frame.specs.Reading.{answers}
@@ -17,8 +17,9 @@ pub record Finished (from from' to to' : Option (List ℕ)) (st : Store) (l : Li
   pub end : IsAtEnd from'
   pub appended : Appends to to' (answers st l [])
 
--- a piece is read and answered
+-- a piece of at least one byte is read and answered
 pub record Went (from from' to to' : Option (List ℕ)) (st : Store) (l : List ℕ) (left : Store) (line : List ℕ) : Type 0 where
   pub piece : List ℕ
+  pub some : 0 < length piece
   pub consumed : Consumes from from' piece
   pub answered : Answered to to' st l piece left line []

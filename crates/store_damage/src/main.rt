@@ -156,8 +156,18 @@ fn lengths<W: Write>(to: &mut W) -> io::Result<()> {
     tell(to, "page-short", Look { page, ..whole })
 }
 
-// One file with these three slot words and this size. The blocks' first bytes are 11, 22, 33 and 44; the last byte of
-// block 0 is `last`.
+// Four blocks whose first bytes are 11, 22, 33 and 44; the last byte of block 0 is `last`.
+fn marked(last: u8) -> [u8; 2048] {
+    let mut memory = [0; 2048];
+    memory[0] = 11;
+    memory[511] = last;
+    memory[512] = 22;
+    memory[1024] = 33;
+    memory[1536] = 44;
+    memory
+}
+
+// One file with these three slot words and this size.
 fn words_and_sizes<W: Write>(to: &mut W) -> io::Result<()> {
     let cases = [
         ("one-block", 512, [2, 0, 0], 0),
@@ -181,12 +191,7 @@ fn words_and_sizes<W: Write>(to: &mut W) -> io::Result<()> {
         ("shared-thrice", 1536, [3, 3, 2], 0),
     ];
     for (name, size, [first, second, third], last) in cases {
-        let mut memory = [0; 2048];
-        memory[0] = 11;
-        memory[511] = last;
-        memory[512] = 22;
-        memory[1024] = 33;
-        memory[1536] = 44;
+        let memory = marked(last);
         let look = Look {
             dimensions: SMALL,
             seen: Seen {

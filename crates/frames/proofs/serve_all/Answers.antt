@@ -11,5 +11,5 @@ returns-in_default g c = served_all c.loop.invariant.served (rw c.in_default.is 
 pub loop-preserved : goal.loop-preserved
 loop-preserved g c = record {
   few = rw c.in-Some.is at c.in_ok-k.ensures.kept_bound;
-  served = served_more c.loop.invariant.served (rw c.in-Some.is at c.in_ok-k.ensures.answered);
+  served = served_more c.loop.invariant.served (rw c.in-Some.is at c.in_ok-k.ensures.answered) _ (omega arith);
 }

@@ -14,6 +14,6 @@ returns-in_default g c =
 
 pub loop-preserved : goal.loop-preserved
 loop-preserved g c = record {
-  read = read_more c.loop.invariant.read _ (rw c.in-Some.is at c.in_ok-n.ensures.read) c.judge_text-judge.ensures.judge_promise (omega arith) (omega arith);
+  read = read_more c.loop.invariant.read _ (rw c.in-Some.is at c.in_ok-n.ensures.read) c.judge_text-judge.ensures.judge_promise (omega arith) (omega arith) (rw c.in-Some.is at c.in_ok-n.ensures.some) _ (omega arith);
   kept = c.loop.invariant.kept;
 }

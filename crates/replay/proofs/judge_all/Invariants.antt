@@ -5,6 +5,6 @@ use Rattle.replay.proofs.judge_all.Given as goal
 
 abbrev pub invariant-loop : goal.invariant-loop
 invariant-loop g l = record {
-  read : Read (g.R.Read.remaining l.fn.from) (g.R.Read.remaining l.from) l.judge l.line l.out (lent_store l.lent);
+  read : Read (g.R.Read.remaining l.fn.from) (g.R.Read.remaining l.from) l.judge l.line l.out (lent_store l.lent) l.counter;
   kept : g.W.Write.contents l.to ≡ g.W.Write.contents l.fn.to;
 }

@@ -1,5 +1,7 @@
 -- Laws on a recording that is read in pieces to its end, or to a difference.
-use Rattle.std.proofs.Common.{arith, length-append, ◌≡◌, ℕ, ◌+◌, ◌<◌, ◌≤◌, ◌⊎◌, inl, inr, true, List, [], ◌++◌, length, sym, ap, ◌∙◌, subst}
+use Rattle.std.proofs.Common.{arith, length-append, ◌≡◌, ℕ, ◌+◌, ◌<◌, ◌≤◌, ◌⊎◌, inl, inr, true, List, [], ◌++◌, length, take, drop, refl, sym, ap, ◌∙◌, subst}
+use Rattle.std.proofs.Math.Seq.{take-append_seam}
+use borrow.Author.Tests.{le-ltb}
 use Rattle.std.specs.Prelude.{Option, Some, None, IfSome, Result, Ok, Err, OnOk}
 use Rattle.std.specs.Io.KnownBytes.{Appends, Consumes, Keeps, IsAtEnd}
 use Rattle.std.proofs.KnownBytes.{Consumes-trans, Consumes-kept, Consumes-nil}
@@ -8,7 +10,8 @@ use Rattle.rules.specs.Line.{frame_geometry}
 use Rattle.frame.specs.declared.judge.Judge.{Judge}
 use Rattle.frame.specs.declared.judge.Step.{Step}
 use Rattle.frame.specs.Judging.{judge_call, is_parted, JudgePromise}
-use Rattle.frame.specs.Printing.{verdict_call, printed}
+use Rattle.frame.specs.declared.judge.Verdict.{Verdict}
+use Rattle.frame.specs.Printing.{of_verdict, verdict_call, printed, verdict_text, Printed}
 use Rattle.frame.proofs.RecordingProof.{Judged, judged-start, judged-more, judged-told}
 use Rattle.replay.specs.Replayed.{told_of}
 
@@ -40,6 +43,13 @@ module _ {from from' : Option (List ℕ)} {j : Judge} {line out : List ℕ} {st 
       go (Some xs) None c e = absurd c
       go (Some xs) (Some ys) c (inl p) = λ few. ap printed (judged-told ys (omega (arith, few, ap length c)) r.judged (inl p)) ∙ ap told_of (sym c)
       go (Some xs) (Some ys) c (inr n) = λ few. ap printed (judged-told ys (omega (arith, few, ap length c)) r.judged (inr n)) ∙ ap told_of (sym c)
+
+-- the verdict's line, which stands at the front of a buffer that has room for it
+pub line_alone : (v : Verdict) (out : List ℕ) {n : ℕ} {after : List ℕ} → 42 ≤ length out → Printed (verdict_text v out) out n after → take n after ≡ printed (of_verdict v)
+unfolding verdict_text
+line_alone v out h p =
+    let room : verdict_text v out ≡ printed (of_verdict v) = rw (le-ltb (length out) 42 h) refl in
+    rw (p.length_is, p.out_is) (take-append_seam (verdict_text v out) (drop (length (verdict_text v out)) out) ∙ room)
 
 -- its verdict is written
 pub told : {T E : Type 0} (r : Result T E) (x a b : Option (List ℕ)) {bs cs : List ℕ} → OnOk r (Appends a b bs) → bs ≡ cs → IfSome x (λ text. length text < 18446744073709551615 → cs ≡ told_of text)

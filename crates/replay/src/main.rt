@@ -8,9 +8,10 @@ ghost use Rattle.rules.specs.Store.{empty_store};
 ghost use Rattle.rules.specs.Line.{frame_geometry};
 ghost use Rattle.tables.specs.Loans.{lent_store};
 ghost use Rattle.frame.specs.Judging.{is_parted};
+ghost use Rattle.frame.specs.Printing.{of_verdict, printed};
 ghost use Rattle.replay.specs.Replayed.{told_of};
 
-use frame::{Frame, Judge, Request};
+use frame::{Frame, Judge, Request, Verdict};
 use std::io;
 use std::io::{Read, Write};
 use tables::Lent;
@@ -37,6 +38,15 @@ fn read_on<R: Read>(from: &mut R, input: &mut [u8], judge: Judge) -> io::Result<
     Ok(Some(n))
 }
 
+// The verdict's line, in one write.
+fn say<W: Write>(to: &mut W, verdict: Verdict) -> io::Result<()>
+    ensures { OnOk result (Appends (W.contents to.old) (W.contents to.new) (printed (of_verdict verdict))) }
+{
+    let mut text = [0u8; Verdict::ROOM];
+    let n = frame::put_verdict(verdict, &mut text);
+    to.write_all(&text[..n])
+}
+
 // The verdict on the whole recording is written. A read that failed leaves none. A proved loop has to end, and nothing says that
 // the input does: no run uses up the turns, and none of an input of fewer bytes does.
 fn judge_all<R: Read, W: Write>(
@@ -57,8 +67,7 @@ fn judge_all<R: Read, W: Write>(
     let mut judge = Judge::new();
     for _ in 0..u64::MAX {
         let Some(n) = read_on(from, input, judge)? else {
-            let verdict = frame::judged(judge, line, out);
-            return write!(to, "{verdict}");
+            return say(to, frame::judged(judge, line, out));
         };
         judge = frame::judge_text(lent, line, out, &input[..n], judge);
     }

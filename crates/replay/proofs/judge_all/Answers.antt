@@ -10,7 +10,7 @@ pub returns-in_default : goal.returns-in_default
 returns-in_default g c =
     let all = rw c.in_default.is at c.in_ok-n.ensures.read in
     rw (← c.loop.invariant.kept)
-    (told c.write.result _ _ _ c.write.ensures.bytes (ap printed c.judged-verdict.ensures) (read_all c.loop.invariant.read _ all.0 all.1))
+    (told c.say.result _ _ _ c.say.ensures (ap printed c.judged.ensures) (read_all c.loop.invariant.read _ all.0 all.1))
 
 pub loop-preserved : goal.loop-preserved
 loop-preserved g c = record {

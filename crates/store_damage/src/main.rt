@@ -44,9 +44,9 @@ fn say_slot<W: Write>(to: &mut W, look: Look<'_>, file: usize, slot: usize) -> i
         Ok(place) => (0, place.hole),
         Err(refusal) => (refusal.number(), true),
     };
-    let kind = if hole { "hole" } else { "data" };
+    let kind = if hole { " hole" } else { " data" };
     let part = tables::slot_view(look.dimensions, look.seen, look.page, file, slot);
-    write!(to, " {number} {kind} {}", part.len())?;
+    write!(to, " {number}{kind} {}", part.len())?;
     if let [first, second, third, fourth, .., last] = part {
         write!(to, " {first} {second} {third} {fourth} {last}")?;
     }

@@ -1,7 +1,7 @@
 // Whether each file is sound: its size, the slots past it, and the bytes of its last slot past it.
 ghost use Rattle.std.specs.Prelude.{◌≡◌, ◌||◌, ◌+◌, ◌-◌, ◌*◌, ◌/◌, ◌<◌, ◌≤◌, length, get_or, eqb, ltb};
 ghost use Rattle.rules.specs.Lists.{all_to, ceil_div};
-ghost use Rattle.rules.specs.Store.{size_of, word_of, slot_byte, sound_file};
+ghost use Rattle.rules.specs.Store.{word_of, slot_byte, sound_file};
 ghost use Rattle.tables.specs.Lent.{geometry_of};
 ghost use Rattle.tables.specs.Tables.{FileKnown};
 ghost use Rattle.tables.specs.Viewed.{view_store};
@@ -51,16 +51,18 @@ pub fn slots_of(size: usize, block_size: usize) -> usize
     size.div_ceil(block_size)
 }
 
-/// Whether a file is sound, whose size is within its slots, and which has so many slots. Of the block memory only the bytes past the size,
-/// in its last slot's block, are read.
-pub fn file_sound(view: View<'_, '_>, file: usize, size: usize, end: usize) -> bool
-    requires known { FileKnown (geometry_of view.geometry) (view_store view) file }
-    requires size { size ≡ size_of (view_store view) file }
-    requires fits { size ≤ view.geometry.slots * view.geometry.block_size }
-    requires end { end ≡ ceil_div size view.geometry.block_size }
+/// Whether a file is sound. Of the block memory only the bytes past the size, in its last slot's block, are read.
+pub fn file_sound(view: View<'_, '_>, file: usize) -> bool
+    requires { FileKnown (geometry_of view.geometry) (view_store view) file }
     ensures { result ≡ sound_file (geometry_of view.entry.geometry) (view_store view.entry) file }
 {
     let geometry = view.geometry;
+    let size = view.sizes[file];
+    if ((geometry.slots * geometry.block_size) as u64) < size {
+        return false;
+    }
+    let size = size as usize;
+    let end = slots_of(size, geometry.block_size);
     if !slots_zero(geometry, view.words, file, end) {
         return false;
     }

@@ -27,12 +27,11 @@ fn test_file(view: View<'_, '_>, counts: &mut [u32], file: usize) -> Option<Coun
     if ((geometry.slots * geometry.block_size) as u64) < size {
         return None;
     }
-    let size = size as usize;
-    let slots = slots_of(size, geometry.block_size);
+    let slots = slots_of(size as usize, geometry.block_size);
     let at = file * geometry.slots;
     let end = at + slots;
     let counted = scan_and_note(&view.words[at..end], counts)?;
-    if !file_sound(view, file, size, slots) {
+    if !file_sound(view, file) {
         return None;
     }
     Some(counted)

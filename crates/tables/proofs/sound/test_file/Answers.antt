@@ -14,8 +14,8 @@ pub returns-in_err-counted-clause-passes : goal.returns-in_err-counted-clause-pa
 returns-in_err-counted-clause-passes c =
     ap is_some c.from_residual.ensures ∙ words_fail _ _ _ _ (view_shaped c.args.view) c.requires c.if-geometry-size.false (rw c.slots_of-slots.ensures at c.in_err-counted.ensures.formed)
 
-pub file_sound-requires-clause-known : goal.file_sound-requires-clause-known
-file_sound-requires-clause-known c =
+pub file_sound-requires : goal.file_sound-requires
+file_sound-requires c =
     file_known _ _ _ _ (view_shaped c.args.view) c.requires c.if-geometry-size.false (rw c.slots_of-slots.ensures at c.in_ok-counted.ensures.formed)
 
 pub returns-clause-passes : goal.returns-clause-passes

@@ -89,6 +89,17 @@ splice-splice m at a b h =
     ∙ ap (λ (n : ℕ). drop n m) sum in
     rw (front, back) (append_assoc t a (b ++ drop (at + length (a ++ b)) m) ∙ ap (λ (l : List ℕ). t ++ l) (sym (append_assoc a b (drop (at + length (a ++ b)) m))))
 
+-- a part written behind another: both are one part, with the length of both, and the place after both is the second one's
+pub written_then : (a b x : List ℕ) (at : ℕ) {n m p q : ℕ} {y z : List ℕ} → at ≤ length x
+    → y ≡ splice x at a → length a ≡ n → p ≡ at + n → z ≡ splice y p b → length b ≡ m → q ≡ p + m
+    → (z ≡ splice x at (a ++ b)) × (length (a ++ b) ≡ n + m) × (q ≡ at + (n + m))
+written_then a b x at {n} {m} {p} h f j e g k l =
+    let place : p ≡ at + length a = e ∙ ap (λ (i : ℕ). at + i) (sym j) in (
+      g ∙ ap (λ (l : List ℕ). splice l p b) f ∙ ap (λ (i : ℕ). splice (splice x at a) i b) place ∙ splice-splice x at a b h,
+      omega (arith, length-append a b, j, k),
+      omega (arith, e, l),
+    )
+
 -- a lent part that comes back is a splice
 pub put-splice : (a n : ℕ) (xs ys zs : List ℕ) → ys ≡ zs → length zs ≡ n → P.put_mid a (a + n - a) xs ys ≡ splice xs a zs
 unfolding splice

@@ -2,6 +2,7 @@ pub mod BoolLaws
 pub mod BytesLaws
 pub mod EncodeLaws
 pub mod DecodeLaws
+pub mod ReadingLaws
 pub mod WritingLaws
 pub mod RoundTrip
 pub mod Onward

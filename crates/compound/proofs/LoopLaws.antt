@@ -13,7 +13,7 @@ use Rattle.xdr.specs.Encode.{concat_map}
 use Rattle.xdr.specs.Writing.{Wrote}
 use Rattle.xdr.specs.declared.writer.Writer.{Writer}
 use Rattle.xdr.proofs.ArrayLaws.{concat_map_append}
-use Rattle.xdr.proofs.WritingLaws.{wrote_then}
+use Rattle.xdr.proofs.WritingLaws.{wrote_none, wrote_then}
 use Rattle.rules.specs.Store.{Geometry, Store}
 use Rattle.rules.specs.Fault.{NOWHERE, fault_at}
 use Rattle.rules.specs.Operation.{BADXDR, Op, Item, op, bad, item_at, items}
@@ -108,9 +108,10 @@ results_end : (zs : List Event) (z : Event) → concat_map result_bytes (zs ++ (
 results_end zs z = concat_map_append result_bytes zs (z ∷ []) ∙ ap (λ t. concat_map result_bytes zs ++ t) (append-nil (result_bytes z))
 
 -- Before each turn, in state x and at place `place` of request s: the events so far, all of them OK, then those of the run that is left,
--- are those of all of it.
+-- are those of all of it. The store is sound, and the handles name files of it.
 pub record Held (g : Geometry) (v s : List ℕ) (st : Store) (ops at : ℕ) (w₀ : Writer) (x : State) (turn place : ℕ) (w : Writer) : Type 0 where
   pub zs : List Event
+  pub ready : Ready g x
   pub ok : last_status 0 zs ≡ 0
   pub count : turn ≡ length zs
   pub read : place ≡ last_place at zs
@@ -120,6 +121,21 @@ pub record Held (g : Geometry) (v s : List ℕ) (st : Store) (ops at : ℕ) (w�
   pub left : reached (config g v) (fresh st) (items s ops at) ≡ zs ++ reached (config g v) x (items s (ops - turn) place)
 
 module _ (g : Geometry) (v s : List ℕ) (st : Store) (ops at : ℕ) (w₀ : Writer) where
+  pub held-start : Ready g (fresh st) → Held g v s st ops at w₀ (fresh st) 0 at w₀
+  held-start r =
+      let all : ops ≡ ops - 0 = omega arith in
+      record {
+        zs = [];
+        ready = r;
+        ok = refl;
+        count = refl;
+        read = refl;
+        store = refl;
+        wrote = wrote_none w₀;
+        most = omega arith;
+        left = ap (λ m. reached (config g v) (fresh st) (items s m at)) all;
+      }
+
   module _ (h : Handles) (now : Store) {turn place : ℕ} {w : Writer} (d : Held g v s st ops at w₀ (state_of h now) turn place w) where
     pub held-end : turn ≡ ops → RanAll 0 s (reached (config g v) (fresh st) (items s ops at)) st at (record { count = ops; status = Status.Ok; place = None }) place now w₀ w
     unfolding items reached
@@ -134,12 +150,12 @@ module _ (g : Geometry) (v s : List ℕ) (st : Store) (ops at : ℕ) (w₀ : Wri
           wrote = d.wrote;
         })
 
-    module _ (bounds : Good g) (hv : length v ≡ 8) (r : Ready g (state_of h now)) (l : turn < ops) where
+    module _ (bounds : Good g) (hv : length v ≡ 8) (l : turn < ops) where
       abbrev z : Event
       z = event_of (config g v) (state_of h now) (item_at s place)
 
       stands : Stands g v s (state_of h now) place z
-      stands = stands_at g bounds v s hv (state_of h now) r place
+      stands = stands_at g bounds v s hv (state_of h now) d.ready place
 
       step_left : ops - turn ≡ suc (ops - (turn + 1))
       step_left = omega arith
@@ -169,9 +185,14 @@ module _ (g : Geometry) (v s : List ℕ) (st : Store) (ops at : ℕ) (w₀ : Wri
           })
 
       module _ {k : Handles} {next : ℕ} {after : Store} {w' : Writer} (t : Turned z (fault_at s place) place h (Ok k) next after w w') where
+        -- the store is still sound, and the handles name files of it
+        pub ready-more : Ready g (state_of k after)
+        ready-more = subst (Ready g) (sym t.state) stands.ready
+
         pub held-more : Held g v s st ops at w₀ (state_of k after) (turn + 1) next w'
         held-more = record {
           zs = d.zs ++ (z ∷ []);
+          ready = ready-more;
           ok = last_end (λ y. y.status) 0 d.zs z ∙ sym t.status;
           count = omega (arith, d.count, length-append d.zs (z ∷ []));
           read = t.read ∙ ap (λ p. place_after p z.item) d.read ∙ sym (place_end at d.zs z);
@@ -186,8 +207,5 @@ module _ (g : Geometry) (v s : List ℕ) (st : Store) (ops at : ℕ) (w₀ : Wri
               ∙ sym (append_assoc d.zs (z ∷ []) (reached (config g v) (state_of k after) (items s (ops - (turn + 1)) next)));
         }
 
-        -- the handles still name files
         pub named-more : Named g.F k
-        named-more =
-            let a : Ready g (state_of k after) = subst (Ready g) (sym t.state) stands.ready in
-            record { current = λ f e. a.current f (ap file_in e); saved = λ f e. a.saved f (ap file_in e) }
+        named-more = record { current = λ f e. ready-more.current f (ap file_in e); saved = λ f e. ready-more.saved f (ap file_in e) }

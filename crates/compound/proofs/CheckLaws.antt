@@ -9,6 +9,7 @@ use Rattle.std.proofs.Common.{Some, None, IfSome, is_some}
 use Rattle.std.specs.declared.option.Option as Std
 use Rattle.xdr.specs.Decode.{number, value}
 use Rattle.xdr.specs.Reading.{parsed, itself}
+use Rattle.xdr.proofs.ReadingLaws.{word_found, word-missed}
 use Rattle.xdr.proofs.NumberLaws.{no-fault, spelled}
 use native.Mathlib.Omega.{arith}
 use Rattle.rules.specs.Store.{Geometry, Store}
@@ -36,5 +37,5 @@ attrs_same g st f ws a h = ap (attrs_reply (file_attrs g st f)) (λ i x. h x i)
 -- a number read from bytes that are as many as it has
 pub whole-number : (k : ℕ) (r : Std.Option ℕ) (at : ℕ) (v : List ℕ) → length v ≡ k → parsed itself r at ≡ number k v 0
     → (is_some r ≡ eqb (length v) k) × IfSome r (λ n. n ≡ value v)
-whole-number k None at v long e = absurd (no-fault k v long 0 refl (sym e))
-whole-number k (Some n) at v long e = (sym (eq-eqb (length v) k long), spelled k v long 0 refl (sym e))
+whole-number k None at v long e = absurd (no-fault k v long 0 refl (word-missed at refl e refl))
+whole-number k (Some n) at v long e = (sym (eq-eqb (length v) k long), spelled k v long 0 refl (word_found at e refl))

@@ -1,13 +1,14 @@
 -- The first error of an operation, by its parts: a part that finds nothing hands on to the rest, one that finds something answers it.
-use Prim.Native.Nat.{ℕ}
+use Prim.Native.Nat.{ℕ, ◌<◌, ◌≤◌}
 use mathlib.Core.Path.{◌≡◌, refl, ◌∙◌}
 use mathlib.Core.Bool.{Bool, true, false, cond, not}
 use mathlib.Core.Option.{Option}
 use mathlib.Core.List.{List, [], ◌∷◌, ◌++◌}
 use native.Mathlib.Omega.{arith}
-use borrow.Author.Tests.{ltb-true, ne_eqb}
+use borrow.Author.Tests.{ltb-true, ne_eqb, lt-ltb, le-ltb}
 use lib.ListN.{get_or}
 use lib.Dec.{ltb, eqb}
+use Rattle.std.proofs.Common.{Some}
 use Rattle.rules.specs.Lists.{first}
 use Rattle.rules.specs.Store.{Geometry, Store}
 use Rattle.rules.specs.Operation.{NXIO, NOFILEHANDLE, BAD_STATEID, UNION_NOTSUPP, SEEK}
@@ -43,6 +44,10 @@ then-row : (ts : List (Bool × ℕ)) (u : Bool) (k : ℕ) → positive ts ≡ tr
     → r ≡ first (ts ++ ((u, k) ∷ []))
 then-row ts u k p a b c = c ∙ rw (a, b) (or_else_lem ts ((u, k) ∷ []) p)
 
+-- an error is answered, whatever comes next
+passed_on : (e next : ℕ) → 0 < e → e ≡ or_else e next
+passed_on e next h = rw (ne_eqb e 0 (λ q. omega (arith, h, q))) refl
+
 module _ (g : Geometry) (p : Handles) (st : Store) where
   abbrev x : State
   x = state_of p st
@@ -58,3 +63,24 @@ module _ (g : Geometry) (p : Handles) (st : Store) where
         let past : ltb (get_or sizes f 0) o ≡ ltb (get_or st.sizes (file_of u) 0) o = rw (file, same) in
         then-row (reads u i ++ ((ltb 1 n, UNION_NOTSUPP) ∷ [])) (ltb (get_or st.sizes (file_of u) 0) o) NXIO refl
         (then-row (reads u i) (ltb 1 n) UNION_NOTSUPP refl e refl a) past r
+
+    -- the same for tests that each end it where they fail; f is the current file
+    module _ (i : List ℕ) (o n : ℕ) where
+      pub seek_reads : {r : ℕ} → r ≡ first (reads u i) → 0 < r → r ≡ first (errors g x (SEEK i o n))
+      seek_reads e k = seek_first i o n refl e (passed_on _ _ k) (passed_on _ _ k)
+
+      module _ {f : ℕ} (current : p.current ≡ Some f) (passes : read_stateid i ≡ true) where
+        file : f ≡ file_of u
+        file = rw current refl
+
+        readable : 0 ≡ first (reads u i)
+        readable = rw (current, passes) refl
+
+        pub seek_what : 1 < n → UNION_NOTSUPP ≡ first (errors g x (SEEK i o n))
+        seek_what h = seek_first i o n {a = UNION_NOTSUPP} file readable (rw (lt-ltb 1 n h) refl) refl
+
+        pub seek_past : n ≤ 1 → get_or sizes f 0 < o → NXIO ≡ first (errors g x (SEEK i o n))
+        seek_past h k = seek_first i o n {a = 0} file readable (rw (le-ltb 1 n h) refl) (rw (lt-ltb (get_or sizes f 0) o k) refl)
+
+        pub seek_none : n ≤ 1 → o ≤ get_or sizes f 0 → 0 ≡ first (errors g x (SEEK i o n))
+        seek_none h k = seek_first i o n {a = 0} file readable (rw (le-ltb 1 n h) refl) (rw (le-ltb (get_or sizes f 0) o k) refl)

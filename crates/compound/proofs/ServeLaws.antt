@@ -17,6 +17,7 @@ use Rattle.xdr.specs.Reading.{parsed, itself}
 use Rattle.xdr.specs.Writing.{Wrote, WroteOver}
 use Rattle.xdr.specs.declared.writer.Writer.{Writer}
 use Rattle.xdr.proofs.EncodeLaws.{length-u32}
+use Rattle.xdr.proofs.ReadingLaws.{word_found, word-missed}
 use Rattle.xdr.proofs.NumberLaws.{no-fault, spelled, u64-value}
 use Rattle.xdr.proofs.WritingLaws.{wrote_none, wrote_then, wrote_over, wrote_spliced}
 use Rattle.rules.specs.Store.{Geometry, good_geometry, Store, good_lengths, sound}
@@ -39,8 +40,8 @@ use Rattle.compound.specs.Runner.{RanAll, ServedAs, refused_number, refused_plac
 
 pub verifier-read : (r : Std.Option ℕ) (at : ℕ) (v : List ℕ) → length v ≡ 8 → ((i : ℕ) → get_or v i 0 < 256) → parsed itself r at ≡ number 8 v 0
     → (is_some r ≡ eqb (length v) 8) × IfSome r (λ n. u64 n ≡ v)
-verifier-read None at v long small e = absurd (no-fault 8 v long 0 refl (sym e))
-verifier-read (Some n) at v long small e = (sym (eq-eqb (length v) 8 long), u64-value v long small (spelled 8 v long 0 refl (sym e)))
+verifier-read None at v long small e = absurd (no-fault 8 v long 0 refl (word-missed at refl e refl))
+verifier-read (Some n) at v long small e = (sym (eq-eqb (length v) 8 long), u64-value v long small (spelled 8 v long 0 refl (word_found at e refl)))
 
 -- ---- the operations of a compound whose header is h
 

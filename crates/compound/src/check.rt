@@ -114,7 +114,6 @@ impl<'r> Context<'_, 'r> {
         }))
     }
 
-    #[tactic(auto, unfolding(rules::specs::Run::errors, rules::specs::Run::does))]
     fn seek(&self, args: ReadArgs) -> Result<Does<'r>, Status>
         ensures { Checked self.now (meaning self.now.request.now (Operation.Seek args)) result }
     {

@@ -3,9 +3,10 @@ use Prim.Native.Nat.{ℕ, ◌+◌, ◌-◌, ◌≤◌, ◌<◌}
 use mathlib.Core.Path.{◌≡◌, sym, ap, ◌∙◌}
 use mathlib.Core.List.{List, ◌++◌, append_assoc}
 use native.Mathlib.Nat.{add_assoc, add-sub_of_le}
+use native.Mathlib.Numerals.{add-one}
 use native.Mathlib.Omega.{arith}
-use lib.ListN.{length, get_or, take, drop, replicate, length-append, length-take, length-drop, get_or-append, length-replicate}
-use lib.Seq.{take-take, take-append-le, drop-append_seam, get_or-append-add, get_or-take, get_or-drop, length-take-le, drop-drop, take-append-add, drop-append-add, take-append_seam, take_at, drop_at}
+use lib.ListN.{length, get_or, set, take, drop, replicate, length-append, length-take, length-drop, get_or-append, length-replicate}
+use lib.Seq.{take-take, take-append-le, drop-append_seam, get_or-append-add, get_or-take, get_or-drop, length-take-le, drop-drop, take-append-add, drop-append-add, take-append_seam, take_at, drop_at, take_all, take-suc, take-suc-set}
 use borrow.Rule.Slice.PartMut as P
 use Rattle.xdr.specs.Bytes.{splice}
 
@@ -133,3 +134,11 @@ written-before a b x at {p = p} e h f k l g j = (
   omega (arith, length-append a b, j, k),
   omega (arith, e, l),
 )
+
+-- ---- a part that is copied element by element
+
+pub copy_more : (dst src : List ℕ) (i : ℕ) → i < length dst → i < length src → take i dst ≡ take i src → take (i + 1) (set dst i (get_or src i 0)) ≡ take (i + 1) src
+copy_more dst src i h k e = rw (add-one i, take-suc-set dst i (get_or src i 0) h, take-suc src i 0 k, e)
+
+pub copy-all : (dst src : List ℕ) (i : ℕ) → take i dst ≡ take i src → length dst ≤ i → length src ≤ i → dst ≡ src
+copy-all dst src i e h k = sym (take_all i dst h) ∙ e ∙ take_all i src k

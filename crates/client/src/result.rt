@@ -9,6 +9,7 @@ use crate::reply::{Body, Fault, OpResult};
 use xdr::Reader;
 
 /// The result at the reader's place. Where its status is not OK, its body is empty.
+#[inline(always)]
 #[tactic(auto, unfolding(rules::specs::Client::result))]
 pub fn read_result(r: &mut Reader<'_>) -> Option<OpResult>
     ensures value { parsed (of_result r.old.bytes.now) result r.new.at ≡ result_at r.old.bytes.now r.old.at }

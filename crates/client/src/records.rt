@@ -22,6 +22,9 @@ pub struct OpRecord {
 impl OpRecord {
     /// Numbers of a record.
     pub const NUMBERS: usize = 10;
+
+    /// Numbers of twelve records, which is the most.
+    pub const MAX_NUMBERS: usize = 120;
 }
 
 // The record at place `at` of the numbers.
@@ -119,10 +122,10 @@ fn operation_of(r: OpRecord) -> Option<Operation>
 pub fn write_records(tag: &[u8], ns: &[u64], lent: &[u8], out: &mut [u8]) -> Result<usize, Refusal>
     ensures { WritePromise tag.now (given_records lent.now ns.now) out.old result out.new }
 {
-    let count = ns.len() / OpRecord::NUMBERS;
-    if ns.len() % OpRecord::NUMBERS != 0 || count > Operation::MAX_OPS as usize {
+    if ns.len() % OpRecord::NUMBERS != 0 || ns.len() > OpRecord::MAX_NUMBERS {
         return Err(Refusal::NotWritable);
     }
+    let count = ns.len() / OpRecord::NUMBERS;
     let mut ops = [Operation::GetFh; Operation::MAX_OPS as usize];
     for i in 0..count {
         ops[i] = operation_of(record_at(ns, OpRecord::NUMBERS * i)).ok_or(Refusal::NotWritable)?;

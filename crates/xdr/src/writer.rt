@@ -6,7 +6,7 @@ ghost use Rattle.xdr.specs.Writing.{Wrote, WroteOver, HasRoom};
 
 use crate::bytes::padding;
 
-// Byte for byte: of two parts that lie apart the compiler makes one memcpy of it, where std's copy is a memmove.
+// One by one: std's copy is a memmove, a name that the client's archive would need from outside.
 fn copy(to: &mut [u8], from: &[u8])
     requires { length to.old ≡ length from.now }
     ensures { to.new ≡ from.now }

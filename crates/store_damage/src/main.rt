@@ -290,7 +290,8 @@ fn make<W: Write>(to: &mut W, name: &str, lent: &mut Lent<'_>) -> io::Result<()>
         Ok(()) => 0,
         Err(refusal) => refusal.number(),
     };
-    write!(to, "make {number} ")?;
+    write!(to, "make")?;
+    write!(to, " {number} ")?;
     tell_lent(to, name, lent)
 }
 

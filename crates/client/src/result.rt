@@ -9,6 +9,7 @@ use crate::reply::{Body, Fault, OpResult};
 use xdr::Reader;
 
 /// The result at the reader's place. Where its status is not OK, its body is empty.
+// Inlined: by memory, its two numbers would be stored one by one and then loaded as one, which waits.
 #[inline(always)]
 #[tactic(auto, unfolding(rules::specs::Client::result))]
 pub fn read_result(r: &mut Reader<'_>) -> Option<OpResult>

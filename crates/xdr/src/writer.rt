@@ -6,7 +6,7 @@ ghost use Rattle.xdr.specs.Writing.{Wrote, WroteOver, HasRoom};
 
 use crate::bytes::padding;
 
-// One by one: std's copy is a memmove, a name that the client's archive would need from outside.
+// One by one: std's copy is a memmove, a name more that an archive for C would need from outside.
 fn copy(to: &mut [u8], from: &[u8])
     requires { length to.old ≡ length from.now }
     ensures { to.new ≡ from.now }
